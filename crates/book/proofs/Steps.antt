@@ -1,12 +1,12 @@
 -- A book with one more line, and a book whose whole history is handed out.
-use Rattle.std.proofs.Common.{◌≡◌, ℕ, zero, suc, ◌+◌, ◌<◌, ◌≤◌, true, false, cond, eqb, Result, List, [], ◌∷◌, ◌++◌, reverse, length, take, get_or, set, refl, sym, ap, ◌∙◌, subst, inl, inr, arith, length-append, OnErr, Ok, Err}
+use Rattle.std.proofs.Common.{◌≡◌, ℕ, zero, suc, ◌+◌, ◌<◌, ◌≤◌, true, false, cond, eqb, Result, List, [], ◌∷◌, ◌++◌, reverse, length, take, get_or, set, refl, sym, ap, ◌∙◌, subst, inl, inr, arith, length-append, IfOk, OnErr, Ok, Err}
 use Rattle.std.proofs.lemmas.List.{take_all, take-take, reverse-append, reverse-reverse, length-reverse, length-set, get_or-set_other}
 use Rattle.std.proofs.lemmas.List.Elements.{filter-append}
 use Rattle.std.proofs.lemmas.Grind.{get_or-set_at}
 use Rattle.std.proofs.lemmas.Bool.Decides.{eqb_tells}
 use Rattle.memory.specs.declared.Starved.{Starved}
-use Rattle.book.specs.Histories.{Line, line, lines_of, count_of, LeadsMachine}
-use Rattle.book.specs.Books.{BookView, TicketView, ticket_view, Reached, IsHistory, Adds, Stands}
+use Rattle.book.specs.Histories.{Line, line, lines_of, count_of, LeadsMachine, IsLast}
+use Rattle.book.specs.Books.{BookView, TicketView, ticket_view, Reached, IsHistory, Adds, Takes, Stands, Gives}
 
 take_again : {X : Type 0} → (k : ℕ) (x : X) (xs : List X) → take k (x ∷ take k xs) ≡ take k (x ∷ xs)
 take_again zero x xs = refl
@@ -79,12 +79,53 @@ module _ {S E O : Type 0} (moves : S → E → Result O Starved → S → Type 0
       }
 
   -- one more line, told of the book and the ticket as they were handed in
-  pub stood : (p p' q : BookView S E O) (t t' : TicketView) (event kept : E) (out : Result O Starved) → p ≡ p' → t ≡ t' → kept ≡ event
-      → Adds moves p (line t.worker t.count kept out) q → Stands moves p' t' event q (ticket_view t.worker (t.count + 1))
-  stood p p' q t t' event kept out here this same adds =
-      let u = ticket_view t.worker (t.count + 1) in
-      let stands : Stands moves p t event q u = record { entry = line t.worker t.count kept out; takes = record { worker = refl; number = refl; event_is = same; adds = adds; ticket = refl } } in
+  pub stood : (p p' q : BookView S E O) (t t' u : TicketView) (event kept : E) (out : Result O Starved) → p ≡ p' → t ≡ t' → u ≡ ticket_view t.worker (t.count + 1) → kept ≡ event
+      → Adds moves p (line t.worker t.count kept out) q → Stands moves p' t' event q u
+  stood p p' q t t' u event kept out here this next same adds =
+      let stands : Stands moves p t event q u = record { entry = line t.worker t.count kept out; takes = record { worker = refl; number = refl; event_is = same; adds = adds; ticket = next } } in
       subst (λ b. Stands moves b t' event q u) here (subst (λ v. Stands moves p v event q u) this stands)
+
+  -- a book that keeps no lines has none, whichever comes
+  pub unkept : (p : BookView S E O) (e : Line E O) → Reached moves begins p → p.keep ≡ 0 → p.tail ≡ take p.keep (e ∷ p.tail)
+  unkept p e r none = r.fits.tail ∙ ap (λ k. take k r.lines) none ∙ sym (ap (λ k. take k (e ∷ p.tail)) none)
+
+  -- the line of a step is the newest of a history
+  newest : (p q : BookView S E O) (e : Line E O) → Reached moves begins p → e.worker < length p.counts → Adds moves p e q → IsLast moves begins e
+  newest p q e r inside a = record {
+    workers = length p.counts;
+    start = r.start;
+    begun = r.begun;
+    older = r.lines;
+    state = q.state;
+    legal = (p.state, r.fits.legal, a.step, inside, a.number ∙ r.fits.counts e.worker inside);
+  }
+
+  -- what a line says of a step that was not refused
+  pub given : (p q : BookView S E O) (t u : TicketView) (event kept : E) (e : Line E O) (out : Result O Starved) → out ≡ e.out → kept ≡ event
+      → IsLast moves begins e → Takes moves p t kept e q u → IfOk out (λ o. Gives moves begins p t event o q u)
+  given p q t u event kept e (Err starved) is same last takes = tt
+  given p q t u event kept e (Ok o) is same last takes = record {
+    entry = e;
+    last = last;
+    takes = record { worker = takes.worker; number = takes.number; event_is = takes.event_is ∙ same; adds = takes.adds; ticket = takes.ticket };
+    gave = sym is;
+  }
+
+  -- the same of a step whose line is not made, told of the book and the ticket as they were handed in
+  pub gave : (p p' q : BookView S E O) (t t' u : TicketView) (event : E) (out : Result O Starved) → p ≡ p' → t ≡ t' → u ≡ ticket_view t.worker (t.count + 1)
+      → Reached moves begins p → t.worker < length p.counts → Adds moves p (line t.worker t.count event out) q → IfOk out (λ o. Gives moves begins p' t' event o q u)
+  gave p p' q t t' u event out here this next r inside adds =
+      let e = line t.worker t.count event out in
+      let all : IfOk out (λ o. Gives moves begins p t event o q u) =
+      given p q t u event event e out refl refl (newest p q e r inside adds) (record { worker = refl; number = refl; event_is = refl; adds = adds; ticket = next }) in
+      subst (λ b. IfOk out (λ o. Gives moves begins b t' event o q u)) here (subst (λ v. IfOk out (λ o. Gives moves begins p v event o q u)) this all)
+
+  -- a line that was taken stands
+  pub restood : (p q : BookView S E O) (t u : TicketView) (event kept : E) (e : Line E O) → kept ≡ event → Takes moves p t kept e q u → Stands moves p t event q u
+  restood p q t u event kept e same takes = record {
+    entry = e;
+    takes = record { worker = takes.worker; number = takes.number; event_is = takes.event_is ∙ same; adds = takes.adds; ticket = takes.ticket };
+  }
 
 pub on_err : {T E P : Type 0} (r : Result T E) → P → OnErr r P
 on_err (Ok x) h = tt

@@ -1,7 +1,7 @@
 -- What a book shows of the one history that its workers share, and what one call of `put` does to it.
-use Rattle.std.specs.Prelude.{◌≡◌, ℕ, zero, suc, ◌+◌, ◌<◌, Result, List, [], ◌∷◌, ◌++◌, reverse, length, take, slice_index_or, slice_set}
+use Rattle.std.specs.Prelude.{◌≡◌, ℕ, zero, suc, ◌+◌, ◌<◌, Result, Ok, List, [], ◌∷◌, ◌++◌, reverse, length, take, slice_index_or, slice_set}
 use Rattle.memory.specs.declared.Starved.{Starved}
-use Rattle.book.specs.Histories.{Line, count_of, LeadsMachine}
+use Rattle.book.specs.Histories.{Line, count_of, LeadsMachine, IsLast}
 
 -- What contracts see of a book: the machine's state, how many lines there are in all, how many each worker
 -- has, and the last of them, the newest first, of which so many are kept.
@@ -78,3 +78,10 @@ module _ {S E O : Type 0} (moves : S → E → Result O Starved → S → Type 0
   pub record Stands (p : BookView S E O) (t : TicketView) (event : E) (q : BookView S E O) (u : TicketView) : Type 0 where
     pub entry : Line E O
     pub takes : Takes p t event entry q u
+
+  -- The event was put, as a line that is the newest of some history, and of which this came out.
+  pub record Gives (begins : S → Type 0) (p : BookView S E O) (t : TicketView) (event : E) (out : O) (q : BookView S E O) (u : TicketView) : Type 0 where
+    pub entry : Line E O
+    pub last : IsLast moves begins entry
+    pub takes : Takes p t event entry q u
+    pub gave : entry.out ≡ Ok out

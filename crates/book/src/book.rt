@@ -1,7 +1,7 @@
 //! The book: a machine's state, its counts and its last entries, which one history led to.
-ghost use Rattle.std.specs.Prelude.{◌≡◌, ◌<◌, ◌≤◌, ◌↔◌, ◌⊎◌, [], ◌∷◌, reverse, replicate, take, IfOk, OnErr, MatchOption, IsTrue, option_copied, slice_get};
+ghost use Rattle.std.specs.Prelude.{◌≡◌, ◌+◌, ◌^◌, ◌<◌, ◌≤◌, ◌↔◌, ◌⊎◌, [], ◌∷◌, length, reverse, replicate, take, IfOk, OnErr, MatchOption, IsTrue, option_copied, slice_get, slice_set};
 ghost use Rattle.circular_buffer.specs.Buffer.{buffer};
-ghost use Rattle.book.specs.Books.{book_view, first_tickets, Owns, Reached, IsHistory, Takes, Stands};
+ghost use Rattle.book.specs.Books.{book_view, ticket_view, first_tickets, Owns, Reached, IsHistory, Takes, Stands, Gives};
 
 use crate::entry::Entry;
 use crate::machine::Machine;
@@ -66,6 +66,26 @@ fn shelve<M: Machine, A: Allocator>(
     answer
 }
 
+// Counts one entry more, which is of the ticket's worker.
+fn count_up<L: Ledger, A: Allocator>(
+    counts: &mut Vec<u64, A>,
+    entries: &mut u64,
+    shares: &mut ledger::Book<L>,
+    ticket: &mut Ticket<L>,
+)
+    requires inside { ticket.old.worker < length counts.old.items }
+    requires room { (ticket.old.count + 1 < 2 ^ 64) × (entries.old + 1 < 2 ^ 64) }
+    ensures counts { counts.new.items ≡ slice_set counts.old.items ticket.old.worker (ticket.old.count + 1) }
+    ensures entries { entries.new ≡ entries.old + 1 }
+    ensures shares { shares.new.total ≡ shares.old.total + 1 }
+    ensures ticket { ticket.new ≡ ticket_view ticket.old.worker (ticket.old.count + 1) }
+{
+    counts[ticket.worker] = ticket.count + 1;
+    *entries += 1;
+    shares.add(&mut ticket.share, 1);
+    ticket.count += 1;
+}
+
 impl<M: Machine, L: Ledger, A: Heap> Book<M, L, A> {
     /// A book without entries, and a ticket for each worker in order. It keeps at most `keep` entries, for
     /// which it takes the room at once; one that keeps none copies nothing. `blank` is the new ledger that `L`
@@ -119,11 +139,51 @@ impl<M: Machine, L: Ledger, A: Allocator> Book<M, L, A> {
         let out = M::step(&mut self.state, &event);
         let entry = Entry::new(worker, number, event, out);
         let answer = shelve(&mut self.tail, entry, spare);
-        self.counts[worker] = number + 1;
-        self.entries += 1;
-        self.shares.add(&mut ticket.share, 1);
-        ticket.count = number + 1;
+        count_up(
+            &mut self.counts,
+            &mut self.entries,
+            &mut self.shares,
+            ticket,
+        );
         answer
+    }
+
+    /// The machine takes one step on `event`, as the worker of `ticket`; the answer is what came out. Where the book
+    /// keeps entries, one of a copy of the event is kept. Refused where the step wants memory, and where `put` is
+    /// refused: the ticket's count has risen where the step was taken, and else nothing has changed.
+    pub fn step(&mut self, ticket: &mut Ticket<L>, event: &M::Event) -> Result<M::Out, Starved>
+        requires { Owns self.old ticket.old }
+        ensures ok { IfOk result (λ out. Gives M.moves M.begins self.old ticket.old event.now out self.new ticket.new) }
+        ensures err { OnErr result (((self.new ≡ self.old) × (ticket.new ≡ ticket.old)) ⊎ Stands M.moves self.old ticket.old event.now self.new ticket.new) }
+    {
+        match copy_to_keep::<M>(self.tail.capacity(), event)? {
+            None => self.step_unkept(ticket, event),
+            Some(copy) => {
+                let entry = self.put(ticket, copy)?;
+                entry.last_law();
+                entry.into_out()
+            }
+        }
+    }
+
+    // The same, where no entry is kept: neither is one made, nor the event copied.
+    fn step_unkept(&mut self, ticket: &mut Ticket<L>, event: &M::Event) -> Result<M::Out, Starved>
+        requires owns { Owns self.old ticket.old }
+        requires unkept { self.old.keep ≡ 0 }
+        ensures ok { IfOk result (λ out. Gives M.moves M.begins self.old ticket.old event.now out self.new ticket.new) }
+        ensures err { OnErr result (((self.new ≡ self.old) × (ticket.new ≡ ticket.old)) ⊎ Stands M.moves self.old ticket.old event.now self.new ticket.new) }
+    {
+        if ticket.count == u64::MAX || self.entries == u64::MAX {
+            return Err(Starved);
+        }
+        let out = M::step(&mut self.state, event);
+        count_up(
+            &mut self.counts,
+            &mut self.entries,
+            &mut self.shares,
+            ticket,
+        );
+        out
     }
 
     /// Whether the ticket is for one of the book's workers and has its count.

@@ -72,6 +72,20 @@ impl<M: Machine> Entry<M> {
         &self.out
     }
 
+    // What came out of the step alone.
+    pub(crate) fn into_out(self) -> Result<M::Out, Starved>
+        ensures { result ≡ self.out }
+    {
+        let Entry {
+            worker: _,
+            number: _,
+            event,
+            out,
+        } = self;
+        drop(event);
+        out
+    }
+
     /// An equal entry.
     pub fn copy(&self) -> Result<Entry<M>, Starved>
         ensures { IfOk result (λ e. e ≡ self.now) }

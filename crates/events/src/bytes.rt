@@ -41,6 +41,14 @@ impl<A: Allocator> Bytes<A> {
         &self.items
     }
 
+    /// The bytes in order, with their memory.
+    pub fn into_items(self) -> Vec<u8, A>
+        ensures { result.items ≡ self }
+    {
+        let Bytes { items } = self;
+        items
+    }
+
     /// Whether the bytes are the same.
     pub fn same(&self, other: &Bytes<A>) -> bool
         ensures { IsTrue result ↔ (self.now ≡ other.now) }

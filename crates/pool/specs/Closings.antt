@@ -1,8 +1,8 @@
 -- How workers use a machine that they share: what one event does to a ticket, and when the lines that the
 -- workers kept close the machine's book.
-use Rattle.std.specs.Prelude.{◌≡◌, ℕ, ◌+◌, ◌<◌, ◌≤◌, ◌⊎◌, Result, List, reverse, length, slice_index_or, All, Any}
+use Rattle.std.specs.Prelude.{◌≡◌, ℕ, ◌+◌, ◌<◌, ◌≤◌, ◌⊎◌, Result, Ok, List, reverse, length, slice_index_or, All, Any}
 use Rattle.memory.specs.declared.Starved.{Starved}
-use Rattle.book.specs.Histories.{Line, lines_of}
+use Rattle.book.specs.Histories.{Line, lines_of, IsLast}
 use Rattle.book.specs.Books.{BookView, TicketView, ticket_view, IsHistory, Reached}
 use Rattle.pool.specs.declared.fault.PoolError.{PoolError}
 use Rattle.pool.specs.declared.fault.PoolError.TheVariants.{Differs, Forgot, Memory, Stranger}
@@ -13,6 +13,14 @@ pub record Enters {E O : Type 0} (t : TicketView) (event : E) (e : Line E O) (u 
   pub number : e.number ≡ t.count
   pub event_is : e.event ≡ event
   pub ticket : u ≡ ticket_view t.worker (t.count + 1)
+
+-- The ticket t took this event as a line that is the newest of some history of the machine, and of which this came out.
+-- The ticket is u now.
+pub record EntersAndGives {S E O : Type 0} (moves : S → E → Result O Starved → S → Type 0) (begins : S → Type 0) (t : TicketView) (event : E) (out : O) (u : TicketView) : Type 0 where
+  pub entry : Line E O
+  pub last : IsLast moves begins entry
+  pub enters : Enters t event entry u
+  pub gave : entry.out ≡ Ok out
 
 -- Why an event was refused: when out of memory, before its line was written or after; or since the ticket is
 -- not one of the book's, and then the ticket is as it was.

@@ -1,14 +1,14 @@
 //! One machine that many workers share: its book stands behind a lock, each worker puts its events by a ticket of
 //! its own and keeps the entries, and in the end what they kept is held against the book's history.
 //!
-//! `Shared::new` puts a book behind a lock, `submit` takes one step of its machine as the worker of a ticket, on any
-//! thread, and `sizes` tells the sizes of its state. When all are done, `gather` takes the book (`into_book`) and what
-//! each worker `Kept`.
+//! `Shared::new` puts a book behind a lock. `submit` takes one step of its machine as the worker of a ticket, on any
+//! thread, and answers with its entry, `take_step` with what came out alone. `sizes` tells the sizes of its state. When
+//! all are done, `gather` takes the book (`into_book`) and what each worker `Kept`.
 //!
-//! Promised: an entry is of that worker, that event and its next number (`Enters`), and a refusal leaves the ticket as
-//! `IsEventRefused` says. The sizes that are told are those of a state to which one history led (`AreSizes`). A history
-//! that closes is legal, and a shuffle of the lists that the workers kept (`Closes`). Of another it is said why it does
-//! not close (`IsOpen`).
+//! Promised: a step is that worker's, on that event and with its next number (`Enters`, `EntersAndGives`), and a refusal
+//! leaves the ticket as `IsEventRefused` says. The sizes that are told are those of a state to which one history led
+//! (`AreSizes`). A history that closes is legal, and a shuffle of the lists that the workers kept (`Closes`). Of another
+//! it is said why it does not close (`IsOpen`).
 //! Not here: making threads (`workers`, `server`); what the machine does (`engine`, `simnet`).
 //!
 //! ```text
@@ -24,4 +24,4 @@ mod shared;
 
 pub use closing::{Closed, Kept, gather};
 pub use fault::PoolError;
-pub use shared::{Shared, sizes, submit};
+pub use shared::{Shared, sizes, submit, take_step};

@@ -1,10 +1,10 @@
 //! A book behind a lock.
 ghost use Rattle.std.specs.Prelude.{IfOk, IfErr};
-ghost use Rattle.pool.specs.Closings.{Enters, IsEventRefused, AreSizes};
+ghost use Rattle.pool.specs.Closings.{Enters, EntersAndGives, IsEventRefused, AreSizes};
 
 use crate::fault::PoolError;
 use book::{Book, Entry, Machine, Measured, Ticket};
-use memory::Heap;
+use memory::{Heap, Starved};
 use std::alloc::{Allocator, Global};
 use std::sync::ledger::Ledger;
 use std::sync::{Mutex, Wait};
@@ -49,6 +49,28 @@ pub fn submit<M: Machine, L: Ledger, A: Heap, R: Wait>(
     match book.put(ticket, event) {
         Ok(entry) => Ok(entry),
         Err(_starved) => Err(PoolError::Memory),
+    }
+}
+
+/// The machine takes one step on `event`, as the worker of `ticket`, and the answer is what came out. The lock is held
+/// for this one step. Refused with `Memory` as `Book::step` refuses: the ticket's count has risen where the step was
+/// taken; with `Stranger` where the ticket's worker or count is not the book's, and then nothing changes.
+pub fn take_step<M: Machine, L: Ledger, A: Heap, R: Wait>(
+    rt: &R,
+    shared: &Shared<M, L, A>,
+    ticket: &mut Ticket<L>,
+    event: &M::Event,
+) -> Result<M::Out, PoolError>
+    ensures ok { IfOk result (λ out. EntersAndGives M.moves M.begins ticket.old event.now out ticket.new) }
+    ensures err { IfErr result (IsEventRefused ticket.old ticket.new) }
+{
+    let mut book = shared.book.lock(rt);
+    if !book.owns(ticket) {
+        return Err(PoolError::Stranger);
+    }
+    match book.step(ticket, event) {
+        Ok(out) => Ok(out),
+        Err(Starved) => Err(PoolError::Memory),
     }
 }
 

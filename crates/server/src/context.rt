@@ -1,11 +1,10 @@
 //! What the loops share: the machine, the sockets, admission, the channels between the loops, and the flag.
-ghost use Rattle.std.specs.Prelude.{◌≤◌, length, IfOk, IfSome, MatchOption, OnErr};
-ghost use Rattle.book.specs.Histories.{IsLast};
+ghost use Rattle.std.specs.Prelude.{◌≡◌, ◌≤◌, length, IfOk, IfSome, MatchOption, OnErr};
 ghost use Rattle.events.specs.Views.{event_view};
 ghost use Rattle.pool.specs.Closings.{IsEventRefused};
 ghost use Rattle.pool.specs.declared.fault.PoolError.TheVariants.{Memory};
 ghost use Rattle.typed.specs.Events.{ReadAs, RepliesToNone};
-ghost use Rattle.server.specs.Steps.{IsPut, IsStepped, IsWritten};
+ghost use Rattle.server.specs.Steps.{IsPut, IsStepped};
 
 use crate::ends::{Ends, address_of};
 use crate::moments::Beginning;
@@ -23,14 +22,15 @@ use dispatch::{Reach, client_of, hand_over, stream_reply_event};
 use events::{Action, Actions, Bytes, Endpoint, Event};
 use memory::Starved;
 use mio::{Events, Poll};
-use pool::{Shared, submit};
+use pool::{Shared, take_step};
 use std::alloc::Global;
+use std::mem::replace;
 use std::sync::Wait;
 use std::sync::atomic::{AtomicBool, Ordering};
 use std::sync::ledger::Ledger;
 use std::time::Clock;
 use typed::{TypedActions, TypedEvent, read_event, write_actions};
-use wire::{Via, Writer};
+use wire::Via;
 
 // More asks than one query makes: a query that comes to nothing but refused asks ends before.
 const MAX_REFUSED_HANDOVERS: u32 = 64;
@@ -107,42 +107,37 @@ pub(crate) struct Context<'a, M: Machine, L: Ledger> {
     pub common: &'a Common<'a>,
 }
 
-// What is read of an event, whose bytes are freed. None for a datagram that replies to no question.
-fn read_whole(alloc: Global, event: Event) -> Result<Option<TypedEvent>, Starved>
+// What is read of an event. None for a datagram that replies to no question. The memory of a client's bytes is the room
+// of the next ones.
+fn read_whole(
+    alloc: Global,
+    event: Event,
+    room: &mut Vec<u8>,
+) -> Result<Option<TypedEvent>, Starved>
     ensures { IfOk result (λ o. MatchOption o (RepliesToNone (event_view event)) (λ parsed. ReadAs (event_view event) parsed)) }
 {
     let read = read_event(alloc, &event);
-    drop(event);
+    keep_room(event, room);
     read
 }
 
-// What a step gave, written. Refused where memory is out now, or was in the step.
-fn written(
-    alloc: Global,
-    writer: &mut Writer,
-    out: &Result<TypedActions, Starved>,
-) -> Result<Actions, Starved>
-    ensures { IfOk result (λ actions. IsWritten out.now actions) }
-{
-    match out {
-        Ok(given) => write_actions(alloc, writer, given),
-        Err(_) => Err(Starved),
+// Keeps the memory of a client's bytes.
+fn keep_room(event: Event, room: &mut Vec<u8>) {
+    match event {
+        Event::Client { bytes, .. } => *room = bytes.into_items(),
+        other => drop(other),
     }
 }
 
-// What the step of an entry gave, written.
-fn write_entry<M: Machine<Out = TypedActions>>(
-    alloc: Global,
-    writer: &mut Writer,
-    entry: book::Entry<M>,
-) -> Result<Actions, Starved>
-    ensures last { IsLast M.moves M.begins entry }
-    ensures written { IfOk result (λ actions. IsWritten entry.out actions) }
+// These bytes, in that room or in a larger one.
+fn put_in_room(bytes: &[u8], room: &mut Vec<u8>) -> Result<Vec<u8>, Starved>
+    ensures { IfOk result (λ v. v.items ≡ bytes.now) }
 {
-    entry.last_law();
-    let out = written(alloc, writer, entry.out());
-    drop(entry);
-    out
+    let alloc = *room.allocator();
+    let mut taken = replace(room, Vec::new(alloc));
+    taken.clear();
+    taken.extend_from_slice(bytes)?;
+    Ok(taken)
 }
 
 impl Common<'_> {
@@ -299,7 +294,7 @@ impl<M: Machine<Event = TypedEvent, Out = TypedActions>, L: Ledger> Context<'_, 
             client: client_of(from),
             way: Via::Udp,
         };
-        match Vec::from_slice(self.common.alloc, bytes) {
+        match put_in_room(bytes, &mut worker.room) {
             Ok(bytes) => {
                 self.put_query(rt, worker, asker, bytes);
             }
@@ -495,11 +490,12 @@ impl<M: Machine<Event = TypedEvent, Out = TypedActions>, L: Ledger> Context<'_, 
     ) -> Result<Option<Actions>, Starved>
         ensures { IfOk result (λ o. MatchOption o (RepliesToNone (event_view event)) (λ actions. IsPut M.moves M.begins worker.old.ticket (event_view event) actions worker.new.ticket)) }
     {
-        let Some(parsed) = read_whole(self.common.alloc, event)? else {
+        let Some(parsed) = read_whole(self.common.alloc, event, &mut worker.room)? else {
             return Ok(None);
         };
-        let actions = self.step_and_write(rt, worker, parsed)?;
-        Ok(Some(actions))
+        let actions = self.step_and_write(rt, worker, &parsed);
+        drop(parsed);
+        Ok(Some(actions?))
     }
 
     // Takes the machine's step, and writes what it gives. Out of memory, the step may have been taken: the ticket shows
@@ -508,13 +504,17 @@ impl<M: Machine<Event = TypedEvent, Out = TypedActions>, L: Ledger> Context<'_, 
         &self,
         rt: &R,
         worker: &mut Worker<L>,
-        parsed: TypedEvent,
+        parsed: &TypedEvent,
     ) -> Result<Actions, Starved>
-        ensures ok { IfOk result (λ actions. IsStepped M.moves M.begins worker.old.ticket parsed actions worker.new.ticket) }
+        ensures ok { IfOk result (λ actions. IsStepped M.moves M.begins worker.old.ticket parsed.now actions worker.new.ticket) }
         ensures err { OnErr result (IsEventRefused worker.old.ticket worker.new.ticket Memory) }
     {
-        match submit(rt, self.shared, &mut worker.ticket, parsed) {
-            Ok(entry) => write_entry(self.common.alloc, &mut worker.writer, entry),
+        match take_step(rt, self.shared, &mut worker.ticket, parsed) {
+            Ok(given) => {
+                let actions = write_actions(self.common.alloc, &mut worker.writer, &given);
+                drop(given);
+                actions
+            }
             Err(_) => Err(Starved),
         }
     }

@@ -28,8 +28,8 @@ const HEADER: usize = 12;
 
 const TYPE_AND_CLASS: usize = 4;
 
-// Bytes of a name on the wire at most (RFC 1035, section 2.3.4).
-const MOST_NAME: usize = 255;
+// Bytes that are hashed at most: a name on the wire (RFC 1035, section 2.3.4), a type, a class, and RD.
+const MOST_HASHED: usize = 255 + TYPE_AND_CLASS + 1;
 
 /// A question in admission: a hash of what is asked, and the number under which its client is counted there.
 #[derive(Clone, Copy)]
@@ -113,16 +113,14 @@ impl SharedAdmission {
         ensures { IfSome result (λ key. 17 ≤ length message.now) }
     {
         let end = question_end(message)?;
-        let name = message.get(HEADER..end - TYPE_AND_CLASS)?;
-        let rest = message.get(end - TYPE_AND_CLASS..end)?;
-        let mut letters = [0u8; MOST_NAME];
-        let letters = letters.get_mut(..name.len())?;
-        letters.copy_from_slice(name);
-        letters.make_ascii_lowercase();
+        let question = message.get(HEADER..end)?;
+        let mut room = [0u8; MOST_HASHED];
+        let hashed = room.get_mut(..=question.len())?;
+        hashed[..question.len()].copy_from_slice(question);
+        hashed[..question.len() - TYPE_AND_CLASS].make_ascii_lowercase();
+        hashed[question.len()] = message.get(2)? & 1;
         let mut hasher = self.start;
-        hasher.write(letters);
-        hasher.write(rest);
-        hasher.write_u8(message.get(2)? & 1);
+        hasher.write(hashed);
         Some(hasher.finish())
     }
 

@@ -5,12 +5,14 @@ use std::alloc::Global;
 use std::sync::ledger::Ledger;
 use wire::Writer;
 
-/// What a loop has of its own: its ticket, and the writer of its messages, which keeps its room from one message to the
-/// next.
+/// What a loop has of its own: its ticket, and memory that it keeps from one message to the next.
 #[derive(Drop)]
 pub(crate) struct Worker<L: Ledger> {
     pub ticket: Ticket<L>,
+    /// The writer of its messages.
     pub writer: Writer,
+    /// Where the next client's datagram is put.
+    pub room: Vec<u8>,
 }
 
 /// A worker for each ticket, in their order.
@@ -21,7 +23,11 @@ pub(crate) fn workers_of<L: Ledger>(
     let mut workers = Vec::with_capacity(alloc, tickets.len())?;
     for ticket in tickets {
         let writer = Writer::new(alloc)?;
-        workers.push(Worker { ticket, writer })?;
+        workers.push(Worker {
+            ticket,
+            writer,
+            room: Vec::new(alloc),
+        })?;
     }
     Ok(workers)
 }
