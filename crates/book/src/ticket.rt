@@ -7,7 +7,7 @@ use std::marker::Model;
 use std::sync::ledger::{Ledger, Share};
 
 /// The right to put events as one worker. It cannot be copied, and its count is its share of the book's
-/// entries, which `Book::put` alone raises.
+/// entries, which the book alone raises.
 #[derive(Drop)]
 pub struct Ticket<L: Ledger> {
     // The worker whose ticket it is, counted from 0.
