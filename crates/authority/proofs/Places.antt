@@ -1,20 +1,22 @@
 -- Zones noted one by one under their origins, and found again.
-use Rattle.std.proofs.Common.{◌≡◌, ◌∙◌, sym, ap, refl, ℕ, ◌+◌, ◌<◌, Bool, true, false, ◌||◌, not, cond, Option, Some, None, List, [], ◌∷◌, ◌++◌, length, take, get_or, Bor}
+use Rattle.std.proofs.Common.{◌≡◌, ◌∙◌, sym, ap, refl, subst, ℕ, ◌+◌, ◌<◌, ◌≤◌, ◌⊎◌, inl, inr, arith, set, Bool, true, false, ◌||◌, not, cond, Option, Some, None, List, [], ◌∷◌, ◌++◌, length, take, get_or, Bor}
 use Rattle.std.specs.Prelude.{find, filter, is_some, is_none, slice_get, Vec}
 use Rattle.std.specs.List.{list_any}
 use Rattle.std.specs.Option.{option_or, option_copied}
-use Rattle.std.proofs.lemmas.List.{take_more}
+use Rattle.std.proofs.lemmas.List.{take_more, length-set, get_or-set_other}
+use Rattle.std.proofs.lemmas.Bool.Decides.{eqb_tells}
+use Rattle.std.proofs.lemmas.Grind.{get_or-set_at}
 use Rattle.std.proofs.lemmas.List.Folds.{find-append}
 use Rattle.std.proofs.lemmas.Option.{slice_get-get_or, slice_get_past, slice_get_read}
 use Rattle.std.specs.Slice.{IsItemAt}
 use Rattle.std.specs.HashMap.{HashMap}
-use Rattle.dname.specs.Keys.{at_bytes}
+use Rattle.dname.specs.Keys.{at_name}
 use Rattle.dname.specs.Labels.{wire, same_name}
 use Rattle.dname.specs.Laws.{same_name-exact}
 use Rattle.zone.specs.Zones.{Zone}
 use Rattle.zone.proofs.LawLists.{find_of}
 use Rattle.authority.specs.Catalogs.{zone_at, has_origin_in, is_chosen, chosen}
-use Rattle.authority.specs.Origins.{placed, ArePlaces}
+use Rattle.authority.specs.Origins.{placed, AreSized, ArePlaces}
 use Rattle.authority.proofs.Twins.{kept_more}
 
 -- The zone's origin is that one.
@@ -119,7 +121,43 @@ pub lent_at : (zs : List Zone) (i : ℕ) (r : Option (Bor Zone)) → IsItemAt zs
 lent_at zs i None h = sym (slice_get_past zs i h.3)
 lent_at zs i (Some z) h = sym (slice_get_read zs (length zs) i z.now refl h.3.0 h.1)
 
-pub zone_told : {S Y : Type 0} (m : HashMap (Vec ℕ Y) ℕ S) (zs : List Zone) (listed : Option (List (List (List ℕ)))) (n : List (List ℕ)) (bs : List ℕ) (o : Option ℕ) (r : Option Zone) → ArePlaces m zs
-    → bs ≡ wire n → o ≡ at_bytes m bs → r ≡ placed zs o → listed_one listed r ≡ zone_at n (chosen listed zs)
-zone_told m zs listed n bs o r h eb eo er =
-    ap (listed_one listed) (er ∙ (ap (placed zs) (eo ∙ ap (at_bytes m) eb) ∙ h.at n)) ∙ sym (zone_listed listed n zs)
+pub zone_told : {S Y : Type 0} (m : HashMap (Vec ℕ Y) ℕ S) (sizes : List Bool) (zs : List Zone) (listed : Option (List (List (List ℕ)))) (n : List (List ℕ)) (o : Option ℕ) (r : Option Zone) → ArePlaces m sizes zs
+    → o ≡ at_name m n → r ≡ placed zs o → listed_one listed r ≡ zone_at n (chosen listed zs)
+zone_told m sizes zs listed n o r h eo er = ap (listed_one listed) (er ∙ (ap (placed zs) eo ∙ h.at n)) ∙ sym (zone_listed listed n zs)
+
+-- A name of a size that is not marked has no place.
+unplaced : (o : Option ℕ) → ((i : ℕ) → o ≡ Some i → true ≡ false) → None ≡ o
+unplaced None h = refl
+unplaced (Some i) h = absurd (h i refl)
+  where
+    absurd : true ≡ false → None ≡ Some i
+    absurd e = cc
+
+pub unmarked : {S Y : Type 0} (m : HashMap (Vec ℕ Y) ℕ S) (sizes : List Bool) (n : List (List ℕ)) → AreSized m sizes → get_or sizes (length (wire n)) false ≡ false → None ≡ at_name m n
+unmarked m sizes n h e = unplaced (at_name m n) (λ i there. sym (h.marked n i there) ∙ e)
+
+-- A size is marked, and those that were stay so.
+mark : (sizes : List Bool) (k j : ℕ) → k < length sizes → (j ≡ k) ⊎ (get_or sizes j false ≡ true) → get_or (set sizes k true) j false ≡ true
+mark sizes k j lt (inl same) = get_or-set_at sizes k j true false same lt
+mark sizes k j lt (inr h) = elim (eqb_tells j k) [
+  | inl same ↦ get_or-set_at sizes k j true false same.1 lt
+  | inr other ↦ get_or-set_other sizes k j true false other.1 ∙ h
+]
+
+pub few : (n : ℕ) → n ≤ 255 → n < 256
+few n h = omega arith
+
+had : (b : Bool) (place i : ℕ) (o : Option ℕ) → cond b (Some place) o ≡ Some i → (b ≡ true) ⊎ (o ≡ Some i)
+had true place i o e = inl refl
+had false place i o e = inr e
+
+pub marked_more : {S Y : Type 0} (m n : HashMap (Vec ℕ Y) ℕ S) (sizes : List Bool) (origin : List (List ℕ)) (size place : ℕ) → AreSized m sizes → size ≡ length (wire origin) → size ≤ 255
+    → ((q : List (List ℕ)) → at_name n q ≡ cond (same_name origin q) (Some place) (at_name m q)) → AreSized n (set sizes size true)
+marked_more m n sizes origin size place h is short noted = record {
+  all = length-set sizes size true ∙ h.all;
+  marked = λ q i there. mark sizes size (length (wire q)) (subst (λ (k : ℕ). size < k) (sym h.all) (few size short)) (kept q i (had (same_name origin q) place i (at_name m q) (sym (noted q) ∙ there)));
+}
+  where
+    kept : (q : List (List ℕ)) (i : ℕ) → (same_name origin q ≡ true) ⊎ (at_name m q ≡ Some i) → (length (wire q) ≡ size) ⊎ (get_or sizes (length (wire q)) false ≡ true)
+    kept q i (inl same) = inl (ap (λ (x : List (List ℕ)). length (wire x)) (sym (same_name-exact origin q same)) ∙ sym is)
+    kept q i (inr old) = inr (h.marked q i old)

@@ -79,7 +79,7 @@ impl<A: Allocator> Model for Catalog<A> {
 
     ghost view = { λ c. c.zones.items };
 
-    ghost invariant = { λ c. IsCatalog c.zones.items × ArePlaces c.places c.zones.items };
+    ghost invariant = { λ c. IsCatalog c.zones.items × ArePlaces c.places.by_origin c.places.sizes c.zones.items };
 }
 
 // The zone with the longest origin over the name, of those that are listed.
@@ -89,7 +89,7 @@ fn zone_over<'a, A: Heap>(
     listed: Option<&[Name<A>]>,
     name: &Name<A>,
 ) -> Option<&'a Zone<A>>
-    requires { ArePlaces places.now zones.now }
+    requires { ArePlaces places.now.by_origin places.now.sizes zones.now }
     ensures { option_copied result ≡ zone_over (chosen (option_copied listed.entry) zones.now) name.now }
 {
     name.well_formed_law();
