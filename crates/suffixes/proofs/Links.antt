@@ -8,7 +8,7 @@ use Rattle.std.specs.Prelude.{replicate, slice_index}
 use Rattle.suffixes.specs.declared.earlier.Noted.{Noted}
 use Rattle.suffixes.specs.Kept.{size_at, before_at, IsEnd, AreLinked}
 
-none_at : (size : ℕ) → IsEnd [] size 0 0
+pub none_at : (size : ℕ) → IsEnd [] size 0 0
 none_at size = record { within = omega arith; last = λ l. absurd (omega arith); none = λ k a b c. absurd (omega arith) }
 
 -- No notes, and a table of zeros.

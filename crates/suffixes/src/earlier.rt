@@ -87,6 +87,18 @@ impl Noted {
     }
 }
 
+// Makes the table of these notes the one without notes: a message has few of its sizes.
+fn unlink(notes: &[Noted], ends: &mut [usize; SIZES])
+    requires { AreLinked notes.now ends.old }
+    ensures { AreLinked [] ends.new }
+{
+    for note in notes {
+        if note.size < SIZES {
+            ends[note.size] = 0;
+        }
+    }
+}
+
 // Notes the suffixes that begin with the first `written` labels of the name in wire form that is kept from
 // `start` on and stands at `at`, each with the place of its first label, as far as a pointer can reach. There
 // is room for them.
@@ -174,9 +186,9 @@ impl<A: Allocator> Suffixes<A> {
     pub fn clear(&mut self)
         ensures { self.new ≡ [] }
     {
+        unlink(&self.notes, &mut self.ends);
         self.notes.clear();
         self.names.clear();
-        self.ends.fill(0);
     }
 
     // The place of the earliest note of a suffix. Goes over the notes of its size alone, the newest first: so
