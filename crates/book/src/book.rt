@@ -156,14 +156,13 @@ impl<M: Machine, L: Ledger, A: Allocator> Book<M, L, A> {
         ensures ok { IfOk result (λ out. Gives M.moves M.begins self.old ticket.old event.now out self.new ticket.new) }
         ensures err { OnErr result (((self.new ≡ self.old) × (ticket.new ≡ ticket.old)) ⊎ Stands M.moves self.old ticket.old event.now self.new ticket.new) }
     {
-        match copy_to_keep::<M>(self.tail.capacity(), event)? {
-            None => self.step_unkept(ticket, event),
-            Some(copy) => {
-                let entry = self.put(ticket, copy)?;
-                entry.last_law();
-                entry.into_out()
-            }
+        if self.tail.capacity() == 0 {
+            return self.step_unkept(ticket, event);
         }
+        let copy = M::copy_event(event)?;
+        let entry = self.put(ticket, copy)?;
+        entry.last_law();
+        entry.into_out()
     }
 
     // The same, where no entry is kept: neither is one made, nor the event copied.
