@@ -12,6 +12,7 @@ pub mod Bytes
 pub mod Fitting
 pub mod Heading
 pub mod NamesRead
+pub mod Plainly
 pub mod Putting
 pub mod DataRead
 pub mod SoaRead

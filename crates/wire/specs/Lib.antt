@@ -18,5 +18,6 @@ pub mod Echoes
 pub mod Puts
 pub mod Chains
 pub mod Shapes
+pub mod Plain
 pub mod Spellings
 pub mod Views

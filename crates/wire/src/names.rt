@@ -1,5 +1,5 @@
 //! Names read at a place of a message, their pointers followed (RFC 1035, section 4.1.4).
-ghost use Rattle.std.specs.Prelude.{◌≡◌, ℕ, ◌≤◌, ◌<◌, ◌+◌, List, [], ◌∷◌, ◌++◌, length, IfOk, IsOk};
+ghost use Rattle.std.specs.Prelude.{◌≡◌, ℕ, ◌≤◌, ◌<◌, ◌+◌, List, [], ◌∷◌, ◌++◌, length, IfOk, IfSome, IsOk};
 ghost use Rattle.arrayvec.specs.ArrayVec.{array_vec_len};
 ghost use Rattle.dname.specs.Labels.{same_name, folded_labels};
 ghost use Rattle.dname.specs.Wire.{labels_of, IsSpellingWire};
@@ -7,6 +7,7 @@ ghost use Rattle.wire.specs.Parts.{message_faults, rdata_faults, spelt_before, s
 ghost use Rattle.wire.specs.Chains.{AreChainEnds};
 ghost use Rattle.wire.specs.Results.{Gives, end_of};
 ghost use Rattle.wire.specs.Spellings.{spelt_by};
+ghost use Rattle.wire.specs.Plain.{IsPlain};
 ghost use Rattle.wire.specs.Views.{labels_in};
 
 use crate::chains::chain_behind;
@@ -84,6 +85,26 @@ fn letters_at(
                 place = next;
             }
         }
+    }
+}
+
+// The end of a name that stands at a place in full, as those of clients' questions do: 15 of 1 `a` 0 at 12. None where it
+// has a pointer, or is no name.
+fn plain_end(bytes: &[u8], at: usize) -> Option<usize>
+    ensures { IfSome result (IsPlain bytes.now at) }
+{
+    let mut place = at;
+    let mut room = 255;
+    'labels: loop {
+        let size = usize::from(*bytes.get(place)?);
+        if size == 0 {
+            return Some(place + 1);
+        }
+        if size >= 64 || room < size + 2 || bytes.len() - place - 1 < size {
+            return None;
+        }
+        place += 1 + size;
+        room -= size + 1;
     }
 }
 
@@ -211,6 +232,9 @@ pub fn spelling_at<A: Heap>(
     ensures is { Gives {Y = List (List ℕ) × ℕ} (λ x. (x.0, x.1)) result (spelt_at bytes.now message_faults (length bytes.now) at) }
     ensures within { IfOk result (λ x. x.1 ≤ length bytes.now) }
 {
+    if let Some(end) = plain_end(bytes, at) {
+        return Ok((Spelling::of_letters(alloc, &bytes[at..end])?, end));
+    }
     let mut letters = ArrayVec::new();
     let end = letters_at(
         &mut letters,
