@@ -222,9 +222,10 @@ pub fn is_named<A: Allocator>(bytes: &[u8], ends: &[u16], at: usize, name: &Name
     }
 }
 
-// The name at a place of a message as `name_at` reads it, with its own letters, and the end of its own part: of 1 `A` 0
-// at 12 it is `a` with the letter `A`, and 15.
-pub fn spelling_at<A: Heap>(
+// The name at a place of a message, its letters gathered. Kept apart from the caller, which would make the room for
+// letters each time.
+#[inline(never)]
+fn gathered_spelling_at<A: Heap>(
     alloc: A,
     bytes: &[u8],
     at: usize,
@@ -232,9 +233,6 @@ pub fn spelling_at<A: Heap>(
     ensures is { Gives {Y = List (List ℕ) × ℕ} (λ x. (x.0, x.1)) result (spelt_at bytes.now message_faults (length bytes.now) at) }
     ensures within { IfOk result (λ x. x.1 ≤ length bytes.now) }
 {
-    if let Some(end) = plain_end(bytes, at) {
-        return Ok((Spelling::of_letters(alloc, &bytes[at..end])?, end));
-    }
     let mut letters = ArrayVec::new();
     let end = letters_at(
         &mut letters,
@@ -246,4 +244,20 @@ pub fn spelling_at<A: Heap>(
         at,
     )?;
     Ok((Spelling::of_letters(alloc, &letters)?, end))
+}
+
+// The name at a place of a message as `name_at` reads it, with its own letters, and the end of its own part: of 1 `A` 0
+// at 12 it is `a` with the letter `A`, and 15.
+pub fn spelling_at<A: Heap>(
+    alloc: A,
+    bytes: &[u8],
+    at: usize,
+) -> Result<(Spelling<A>, usize), WireError>
+    ensures is { Gives {Y = List (List ℕ) × ℕ} (λ x. (x.0, x.1)) result (spelt_at bytes.now message_faults (length bytes.now) at) }
+    ensures within { IfOk result (λ x. x.1 ≤ length bytes.now) }
+{
+    match plain_end(bytes, at) {
+        Some(end) => Ok((Spelling::of_letters(alloc, &bytes[at..end])?, end)),
+        None => gathered_spelling_at(alloc, bytes, at),
+    }
 }
