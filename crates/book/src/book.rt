@@ -157,8 +157,19 @@ impl<M: Machine, L: Ledger, A: Allocator> Book<M, L, A> {
         ensures err { OnErr result (((self.new ≡ self.old) × (ticket.new ≡ ticket.old)) ⊎ Stands M.moves self.old ticket.old event.now self.new ticket.new) }
     {
         if self.tail.capacity() == 0 {
-            return self.step_unkept(ticket, event);
+            self.step_unkept(ticket, event)
+        } else {
+            self.step_kept(ticket, event)
         }
+    }
+
+    // The same, where the entry is written. Kept apart from `step`, which would make the room for an entry each time.
+    #[inline(never)]
+    fn step_kept(&mut self, ticket: &mut Ticket<L>, event: &M::Event) -> Result<M::Out, Starved>
+        requires { Owns self.old ticket.old }
+        ensures ok { IfOk result (λ out. Gives M.moves M.begins self.old ticket.old event.now out self.new ticket.new) }
+        ensures err { OnErr result (((self.new ≡ self.old) × (ticket.new ≡ ticket.old)) ⊎ Stands M.moves self.old ticket.old event.now self.new ticket.new) }
+    {
         let copy = M::copy_event(event)?;
         let entry = self.put(ticket, copy)?;
         entry.last_law();

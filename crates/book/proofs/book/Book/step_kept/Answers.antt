@@ -1,6 +1,6 @@
 use Rattle.std.proofs.Common.{inr}
 use Rattle.book.proofs.Steps.{given, restood, on_err}
-use Rattle.book.proofs.book.Book.step.Goals as goal
+use Rattle.book.proofs.book.Book.step_kept.Goals as goal
 
 pub returns-clause-ok : goal.returns-clause-ok
 returns-clause-ok g c =
