@@ -1,11 +1,11 @@
 //! Equality of queries and of their answers.
 ghost use Rattle.std.specs.Prelude.{◌≡◌, ◌↔◌, IsTrue};
 
+use crate::boxed::BoxedEcho;
 use crate::queries::{End, Outcome, Query, Request};
 use dname::Name;
 use rdata::RType;
 use std::alloc::Allocator;
-use wire::Echo;
 
 impl<A: Allocator> Query<A> {
     /// Whether both are one query, with the same letters of its question.
@@ -44,12 +44,12 @@ impl<A: Allocator> Request<A> {
 
 /// Whether both are the same question in the same letters, or none.
 #[tactic(auto, using(wire::proofs::Exact::exact))]
-pub fn same_echo<A: Allocator>(echo: &Option<Echo<A>>, other: &Option<Echo<A>>) -> bool
+pub fn same_echo<A: Allocator>(echo: &Option<BoxedEcho<A>>, other: &Option<BoxedEcho<A>>) -> bool
     ensures { IsTrue result ↔ (echo.now ≡ other.now) }
 {
     match (echo, other) {
         (None, None) => true,
-        (Some(echo), Some(other)) => echo == other,
+        (Some(echo), Some(other)) => **echo == **other,
         _ => false,
     }
 }

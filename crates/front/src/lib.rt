@@ -1,10 +1,11 @@
 //! The client side (RFC 1035, section 4.1): queries read from bytes, answers from local zones alone, replies
 //! written.
 //!
-//! `read_query` reads a client's bytes: they are dropped, refused (FORMERR or NOTIMP), or a `Query`, shared by count
-//! (`SharedQuery`). `answer_local` answers a query with RD clear from a catalog: the CNAME chain through local zones, at
-//! most eight long, and its end; a referral at a zone cut; or REFUSED. `reply_bytes` writes the reply of an `Outcome`,
-//! truncated over UDP where it is longer than 512 bytes; `refusal_bytes` that of a refusal.
+//! `read_query` reads a client's bytes: they are dropped, refused (FORMERR, or NOTIMP with the question to repeat,
+//! `BoxedEcho`), or a `Query`, shared by count (`SharedQuery`). `answer_local` answers a query with RD clear from a
+//! catalog: the CNAME chain through local zones, at most eight long, and its end; a referral at a zone cut; or REFUSED.
+//! `reply_bytes` writes the reply of an `Outcome`, truncated over UDP where it is longer than 512 bytes;
+//! `refusal_bytes` that of a refusal.
 //!
 //! Promised: the meaning of bytes (`IsRequest`, one at most: `reading_is_one`), the answer of local zones
 //! (`AnswersLocally`, `local_answer_is_one`), and the reply to the byte (`reply_of`), which repeats the client's
@@ -21,6 +22,7 @@
 //! ```
 #![tactic(auto)]
 
+mod boxed;
 mod copies;
 mod equality;
 mod follow;
@@ -31,6 +33,7 @@ mod reply;
 mod shared;
 mod start;
 
+pub use boxed::{BoxedEcho, lent_echo};
 pub use equality::same_echo;
 pub use follow::{Step, alias_target, answer_local};
 pub use laws::{echo_is_question, local_answer_is_one, reading_is_one};

@@ -3,6 +3,7 @@ ghost use Rattle.std.specs.Prelude.{◌≡◌, ◌≤◌, ◌<◌, IfOk, IsOk, l
 ghost use Rattle.front.specs.Openings.{opening_of};
 ghost use Rattle.front.specs.Queries.{IsRequest, by_question};
 
+use crate::boxed::BoxedEcho;
 use crate::queries::{Query, Refusal, Request};
 use crate::shared::SharedQuery;
 use crate::start::Start;
@@ -58,6 +59,9 @@ fn sort_question<A: Heap>(
             };
             Ok(Request::Query(SharedQuery::new(alloc, query)?))
         }
-        _ => Ok(Request::Refuse(Refusal::NotImp, start, Some(echo))),
+        _ => {
+            let echo = BoxedEcho::new(alloc, echo)?;
+            Ok(Request::Refuse(Refusal::NotImp, start, Some(echo)))
+        }
     }
 }
