@@ -1,8 +1,8 @@
 //! Actions that are not written yet.
 use events::{Ask, ClientQuery};
-use front::{Outcome, Refusal, Start};
+use front::{BoxedEcho, Outcome, Refusal, Start};
 use std::alloc::{Allocator, Global};
-use wire::{Echo, Via};
+use wire::Via;
 
 /// An action by its parts, of which its bytes are written. Contracts see the action that is written of it
 /// (`said_view`), but those of `copied` and `same` its parts.
@@ -27,7 +27,7 @@ pub enum TypedAction<A: Allocator = Global> {
         /// The fields of their header that the reply repeats.
         start: Start,
         /// Their question, if there is one.
-        echo: Option<Echo<A>>,
+        echo: Option<BoxedEcho<A>>,
     },
     /// An ask of a server.
     Ask {

@@ -2,10 +2,10 @@
 ghost use Rattle.std.specs.Prelude.{◌≡◌, IfOk};
 
 use crate::action::{TypedAction, TypedActions};
+use crate::boxed::BoxedReading;
 use crate::event::Parsed;
-use classify::Reading;
+use front::BoxedEcho;
 use memory::{Heap, Starved};
-use wire::Echo;
 
 impl<A: Heap> Parsed<A> {
     /// The same, copied.
@@ -50,7 +50,9 @@ impl<A: Heap> Parsed<A> {
     }
 }
 
-fn copied_reading<A: Heap>(reading: &Option<Reading<A>>) -> Result<Option<Reading<A>>, Starved>
+fn copied_reading<A: Heap>(
+    reading: &Option<BoxedReading<A>>,
+) -> Result<Option<BoxedReading<A>>, Starved>
     ensures { IfOk result (λ r. r ≡ reading.now) }
 {
     match reading {
@@ -93,7 +95,7 @@ impl<A: Heap> TypedAction<A> {
     }
 }
 
-fn copied_echo<A: Heap>(echo: &Option<Echo<A>>) -> Result<Option<Echo<A>>, Starved>
+fn copied_echo<A: Heap>(echo: &Option<BoxedEcho<A>>) -> Result<Option<BoxedEcho<A>>, Starved>
     ensures { IfOk result (λ e. e ≡ echo.now) }
 {
     match echo {

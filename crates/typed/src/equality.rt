@@ -5,12 +5,13 @@ ghost use Rattle.typed.specs.declared.action.TypedAction.TheVariants as said;
 ghost use Rattle.typed.specs.declared.event.Parsed.TheVariants as parsed;
 
 use crate::action::{TypedAction, TypedActions};
+use crate::boxed::BoxedReading;
 use crate::event::Parsed;
 use classify::Reading;
 use events::{Ask, ClientQuery, Endpoint};
-use front::{Outcome, Refusal, Request, Start, same_echo};
+use front::{BoxedEcho, Outcome, Refusal, Request, Start, same_echo};
 use std::alloc::Allocator;
-use wire::{Echo, Via};
+use wire::Via;
 
 impl<A: Allocator> Parsed<A> {
     /// Whether both were read the same, and came at one moment.
@@ -75,7 +76,7 @@ impl<A: Allocator> Parsed<A> {
     }
 
     // Whether this one was read so of the reply to that ask over TCP, then.
-    fn is_tcp_reply(&self, now: u64, ask: u64, told: &Option<Reading<A>>) -> bool
+    fn is_tcp_reply(&self, now: u64, ask: u64, told: &Option<BoxedReading<A>>) -> bool
         ensures { IsTrue result ↔ (self.now ≡ parsed.TcpReply now ask told.now) }
     {
         match self {
@@ -89,7 +90,10 @@ impl<A: Allocator> Parsed<A> {
     }
 }
 
-fn same_reading<A: Allocator>(reading: &Option<Reading<A>>, other: &Option<Reading<A>>) -> bool
+fn same_reading<A: Allocator>(
+    reading: &Option<BoxedReading<A>>,
+    other: &Option<BoxedReading<A>>,
+) -> bool
     ensures { IsTrue result ↔ (reading.now ≡ other.now) }
 {
     match (reading, other) {
@@ -140,7 +144,7 @@ impl<A: Allocator> TypedAction<A> {
         by: Via,
         why: Refusal,
         opening: Start,
-        question: &Option<Echo<A>>,
+        question: &Option<BoxedEcho<A>>,
     ) -> bool
         ensures { IsTrue result ↔ (self.now ≡ said.Refusal to by why opening question.now) }
     {

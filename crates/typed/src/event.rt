@@ -5,7 +5,8 @@ ghost use Rattle.events.specs.Views.{event_view};
 ghost use Rattle.typed.specs.Events.{ReadAs, HasBytes, RepliesToNone};
 ghost use Rattle.typed.specs.Views.{parsed_view};
 
-use classify::{Reading, read};
+use crate::boxed::{BoxedReading, boxed_reading};
+use classify::read;
 use events::{Endpoint, Event, read_asked};
 use front::Request;
 use limits::LATEST_MOMENT;
@@ -37,7 +38,7 @@ pub enum Parsed<A: Allocator = Global> {
         /// The address and the port that it was sent from, which may be forged.
         from: Endpoint,
         /// What was read of its message.
-        reading: Reading<A>,
+        reading: BoxedReading<A>,
     },
     /// The reply to the ask over TCP of this number.
     TcpReply {
@@ -46,7 +47,7 @@ pub enum Parsed<A: Allocator = Global> {
         /// The number of the ask, as `events::Action::TcpAsk` gave it.
         number: u64,
         /// What was read of its message; none where it replies to no ask.
-        reading: Option<Reading<A>>,
+        reading: Option<BoxedReading<A>>,
     },
     /// The ask over TCP of this number failed.
     TcpFailed {
@@ -165,7 +166,7 @@ fn parse<A: Heap>(alloc: A, event: &Event<A>) -> Result<Option<Parsed<A>>, Starv
                 moment,
                 socket,
                 from,
-                reading,
+                reading: BoxedReading::new(alloc, reading)?,
             },
         },
         Event::TcpReply {
@@ -175,7 +176,7 @@ fn parse<A: Heap>(alloc: A, event: &Event<A>) -> Result<Option<Parsed<A>>, Starv
         } => Parsed::TcpReply {
             moment,
             number,
-            reading: read(alloc, Via::Tcp, bytes.as_slice())?,
+            reading: boxed_reading(alloc, read(alloc, Via::Tcp, bytes.as_slice())?)?,
         },
         Event::TcpFailed { moment, number } => Parsed::TcpFailed { moment, number },
         Event::Tick { moment } => Parsed::Tick { moment },

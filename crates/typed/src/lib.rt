@@ -2,8 +2,8 @@
 //! it holds its lock.
 //!
 //! `read_event` makes a `TypedEvent` of an event's bytes: a client's request (`front`), or the reading of a server's
-//! message (`classify`). A `TypedAction` is a reply by its query and outcome, a refusal, or an ask. `reply_to`,
-//! `refuse` and `send` make one, and `write_action` writes the `events::Action` of it.
+//! message (`classify`), in memory of its own (`BoxedReading`). A `TypedAction` is a reply by its query and outcome, a
+//! refusal, or an ask. `reply_to`, `refuse` and `send` make one, and `write_action` writes the `events::Action` of it.
 //!
 //! Promised: a typed event is one of some bytes (`ReadAs`, the invariant of `TypedEvent`): `read_event` makes it, or it
 //! is a copy of one. What is written of a typed action is the one action that contracts see it as (`said_view`), which
@@ -23,6 +23,7 @@
 #![tactic(auto)]
 
 mod action;
+mod boxed;
 mod copies;
 mod equality;
 mod event;
@@ -31,6 +32,7 @@ mod say;
 mod write;
 
 pub use action::{TypedAction, TypedActions};
+pub use boxed::{BoxedReading, lent_reading};
 pub use event::{Parsed, TypedEvent, read_event};
 pub use laws::{ask_law, refusal_law, reply_law};
 pub use say::{refuse, reply_to, send};

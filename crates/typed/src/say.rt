@@ -7,9 +7,9 @@ ghost use Rattle.typed.specs.Views.{said_view};
 use crate::action::TypedAction;
 use crate::laws::{ask_law, refusal_law, reply_law};
 use events::{Ask, ClientQuery};
-use front::{Outcome, Refusal, Start};
+use front::{BoxedEcho, Outcome, Refusal, Start, lent_echo};
 use memory::{Heap, Starved};
-use wire::{Echo, Via};
+use wire::Via;
 
 /// The reply of an outcome to the client who asked, by its way. Takes no memory.
 pub fn reply_to<A: Heap>(client_query: ClientQuery<A>, outcome: Outcome<A>) -> TypedAction<A>
@@ -29,11 +29,11 @@ pub fn refuse<A: Heap>(
     way: Via,
     refusal: Refusal,
     start: Start,
-    echo: Option<Echo<A>>,
+    echo: Option<BoxedEcho<A>>,
 ) -> TypedAction<A>
     ensures { IsRefusal client way refusal start echo (said_view result) }
 {
-    refusal_law(client, way, refusal, start, echo.as_ref());
+    refusal_law(client, way, refusal, start, lent_echo(&echo));
     TypedAction::Refusal {
         client,
         way,

@@ -5,6 +5,7 @@ ghost use Rattle.typed.specs.Views.{said_view, said_listed};
 
 use crate::action::{TypedAction, TypedActions};
 use events::{Action, Actions};
+use front::lent_echo;
 use memory::{Heap, Starved};
 use wire::Writer;
 
@@ -28,7 +29,7 @@ pub fn write_action<A: Heap>(
             refusal,
             start,
             echo,
-        } => Ok(events::refuse(writer, *client, *way, *refusal, *start, echo.as_ref())?),
+        } => Ok(events::refuse(writer, *client, *way, *refusal, *start, lent_echo(echo))?),
         TypedAction::Ask { port, ask } => Ok(events::send(alloc, *port, ask)?),
     }
 }

@@ -15,8 +15,8 @@ returns-in_ok-reply_to-in-Reply g c =
 pub returns-in_ok-refuse-in-Refusal : goal.returns-in_ok-refuse-in-Refusal
 returns-in_ok-refuse-in-Refusal g c =
     let r = c.in-Refusal in
-    let same : option_copied c.as_ref.result ≡ c.in-Refusal.echo = search rules in
-    written_refusal r.client r.way r.refusal r.start (option_copied c.as_ref.result) (action_view c.in_ok-refuse-in-Refusal.field-0) c.in_ok-refuse-in-Refusal.ensures.reply
+    let same : option_copied c.lent_echo.result ≡ c.in-Refusal.echo = search rules in
+    written_refusal r.client r.way r.refusal r.start (option_copied c.lent_echo.result) (action_view c.in_ok-refuse-in-Refusal.field-0) c.in_ok-refuse-in-Refusal.ensures.reply
     ∙ (ap (λ (echo : Option Question). refused r.client r.way r.refusal r.start echo) same ∙ sym (ap said_view c.in-Refusal.is))
 
 pub returns-in_ok-send-in-Ask : goal.returns-in_ok-send-in-Ask
