@@ -14,7 +14,7 @@ use crate::state::ResolverState;
 use events::Event;
 use memory::{Heap, Starved};
 use std::alloc::Allocator;
-use typed::{Parsed, TypedAction, TypedActions};
+use typed::{Parsed, TypedAction, TypedActions, lent_reading};
 
 // One action at most, without word that another query is due.
 fn alone<A: Allocator>(
@@ -89,7 +89,7 @@ impl<A: Heap> ResolverState<A> {
                 number,
                 reading,
                 ..
-            } => alone(self.read_reply(*number, reading)),
+            } => alone(self.read_reply(*number, lent_reading(reading))),
             Parsed::TcpFailed { number, .. } => alone(self.tcp_failed(*number)),
             Parsed::Tick { .. } => self.tick(),
         }

@@ -1,6 +1,6 @@
 //! Replies over TCP, and asks over TCP that failed.
 ghost use Rattle.std.specs.Result.{IsOkAnd};
-ghost use Rattle.std.specs.Prelude.{◌≡◌, ℕ, List, Some, None, IfOk, OnErr, MatchOption, Contains};
+ghost use Rattle.std.specs.Prelude.{◌≡◌, ℕ, List, Some, None, IfOk, OnErr, MatchOption, Contains, option_copied};
 ghost use Rattle.resolution.specs.Jobs as jobs;
 ghost use Rattle.rdata.specs.Types.{type_number};
 ghost use Rattle.wire.specs.declared.via.Via.TheVariants as via;
@@ -70,14 +70,14 @@ impl<A: Heap> ResolverState<A> {
         &mut self,
         ask: u64,
         number: u64,
-        reading: &Option<Reading<A>>,
+        reading: Option<&Reading<A>>,
     ) -> Result<Option<TypedAction<A>>, Starved>
         requires sound { IsSound (state_of self.old) }
         requires there { (q : Open) × IsTheOne self.old.queries number q }
         requires asked { OfTheOne self.old.queries number (IsOfNumber ask) }
-        requires read { HasBeenRead via.Tcp (read_view reading.now) }
-        ensures ok { (now : ℕ) (bytes : List ℕ) → AreRead via.Tcp bytes (read_view reading.now) → IfOk result (λ o. IsHeard (state_of self.old) number (TcpReply now ask bytes) o (state_of self.new)) }
-        ensures err { (now : ℕ) (bytes : List ℕ) → AreRead via.Tcp bytes (read_view reading.now) → OnErr result (IsLost (state_of self.old) number (TcpReply now ask bytes) (state_of self.new)) }
+        requires read { HasBeenRead via.Tcp (read_view (option_copied reading)) }
+        ensures ok { (now : ℕ) (bytes : List ℕ) → AreRead via.Tcp bytes (read_view (option_copied reading.entry)) → IfOk result (λ o. IsHeard (state_of self.old) number (TcpReply now ask bytes) o (state_of self.new)) }
+        ensures err { (now : ℕ) (bytes : List ℕ) → AreRead via.Tcp bytes (read_view (option_copied reading.entry)) → OnErr result (IsLost (state_of self.old) number (TcpReply now ask bytes) (state_of self.new)) }
     {
         match reading {
             Some(reading) => self.hear(number, reading),
@@ -93,12 +93,12 @@ impl<A: Heap> ResolverState<A> {
     pub fn read_reply(
         &mut self,
         ask: u64,
-        reading: &Option<Reading<A>>,
+        reading: Option<&Reading<A>>,
     ) -> Result<Option<TypedAction<A>>, Starved>
         requires sound { IsSound (state_of self.old) }
-        requires read { HasBeenRead via.Tcp (read_view reading.now) }
-        ensures ok { (now : ℕ) (bytes : List ℕ) → AreRead via.Tcp bytes (read_view reading.now) → IfOk result (λ a. Turns (state_of self.old) (TcpReply now ask bytes) (Some (if_any a)) (state_of self.new)) }
-        ensures err { (now : ℕ) (bytes : List ℕ) → AreRead via.Tcp bytes (read_view reading.now) → OnErr result (Turns (state_of self.old) (TcpReply now ask bytes) None (state_of self.new)) }
+        requires read { HasBeenRead via.Tcp (read_view (option_copied reading)) }
+        ensures ok { (now : ℕ) (bytes : List ℕ) → AreRead via.Tcp bytes (read_view (option_copied reading.entry)) → IfOk result (λ a. Turns (state_of self.old) (TcpReply now ask bytes) (Some (if_any a)) (state_of self.new)) }
+        ensures err { (now : ℕ) (bytes : List ℕ) → AreRead via.Tcp bytes (read_view (option_copied reading.entry)) → OnErr result (Turns (state_of self.old) (TcpReply now ask bytes) None (state_of self.new)) }
     {
         let Some(number) = self.asked_over(ask) else {
             return Ok(None);
@@ -125,7 +125,7 @@ impl<A: Heap> ResolverState<A> {
                 Err(starved)
             }
             Ok(reading) => {
-                let given = self.read_reply(ask, &reading);
+                let given = self.read_reply(ask, reading.as_ref());
                 drop(reading);
                 given
             }

@@ -17,22 +17,22 @@ returns-in-Client-clause-err g c e reads =
 pub returns-in-Datagram-clause-ok : goal.returns-in-Datagram-clause-ok
 returns-in-Datagram-clause-ok g c e reads =
     let r = rw c.in-Datagram.is at reads in
-    alone_ok (state_of c.args.self.now) (state_of c.read_datagram.new.self) e (Datagram c.in-Datagram.moment c.in-Datagram.socket (endpoint_view c.in-Datagram.from) r.0) c.read_datagram.result c.alone-in-Datagram.result c.alone-in-Datagram.ensures r.1 (c.read_datagram.ensures.ok c.in-Datagram.moment r.0 r.2)
+    alone_ok (state_of c.args.self.now) (state_of c.read_datagram.new.self) e (Datagram c.in-Datagram.moment c.in-Datagram.socket (endpoint_view c.in-Datagram.from) r.0) c.read_datagram.result c.alone-in-Datagram.result c.alone-in-Datagram.ensures r.1 ((rw c.deref.ensures at c.read_datagram.ensures.ok) c.in-Datagram.moment r.0 r.2)
 
 pub returns-in-Datagram-clause-err : goal.returns-in-Datagram-clause-err
 returns-in-Datagram-clause-err g c e reads =
     let r = rw c.in-Datagram.is at reads in
-    alone_err (state_of c.args.self.now) (state_of c.read_datagram.new.self) e (Datagram c.in-Datagram.moment c.in-Datagram.socket (endpoint_view c.in-Datagram.from) r.0) c.read_datagram.result c.alone-in-Datagram.result c.alone-in-Datagram.ensures r.1 (c.read_datagram.ensures.err c.in-Datagram.moment r.0 r.2)
+    alone_err (state_of c.args.self.now) (state_of c.read_datagram.new.self) e (Datagram c.in-Datagram.moment c.in-Datagram.socket (endpoint_view c.in-Datagram.from) r.0) c.read_datagram.result c.alone-in-Datagram.result c.alone-in-Datagram.ensures r.1 ((rw c.deref.ensures at c.read_datagram.ensures.err) c.in-Datagram.moment r.0 r.2)
 
 pub returns-in-TcpReply-clause-ok : goal.returns-in-TcpReply-clause-ok
 returns-in-TcpReply-clause-ok g c e reads =
     let r = rw c.in-TcpReply.is at reads in
-    alone_ok (state_of c.args.self.now) (state_of c.read_reply.new.self) e (TcpReply c.in-TcpReply.moment c.in-TcpReply.number r.0) c.read_reply.result c.alone-in-TcpReply.result c.alone-in-TcpReply.ensures r.1 (c.read_reply.ensures.ok c.in-TcpReply.moment r.0 r.2)
+    alone_ok (state_of c.args.self.now) (state_of c.read_reply.new.self) e (TcpReply c.in-TcpReply.moment c.in-TcpReply.number r.0) c.read_reply.result c.alone-in-TcpReply.result c.alone-in-TcpReply.ensures r.1 ((rw c.lent_reading.ensures at c.read_reply.ensures.ok) c.in-TcpReply.moment r.0 r.2)
 
 pub returns-in-TcpReply-clause-err : goal.returns-in-TcpReply-clause-err
 returns-in-TcpReply-clause-err g c e reads =
     let r = rw c.in-TcpReply.is at reads in
-    alone_err (state_of c.args.self.now) (state_of c.read_reply.new.self) e (TcpReply c.in-TcpReply.moment c.in-TcpReply.number r.0) c.read_reply.result c.alone-in-TcpReply.result c.alone-in-TcpReply.ensures r.1 (c.read_reply.ensures.err c.in-TcpReply.moment r.0 r.2)
+    alone_err (state_of c.args.self.now) (state_of c.read_reply.new.self) e (TcpReply c.in-TcpReply.moment c.in-TcpReply.number r.0) c.read_reply.result c.alone-in-TcpReply.result c.alone-in-TcpReply.ensures r.1 ((rw c.lent_reading.ensures at c.read_reply.ensures.err) c.in-TcpReply.moment r.0 r.2)
 
 pub returns-in-TcpFailed-clause-ok : goal.returns-in-TcpFailed-clause-ok
 returns-in-TcpFailed-clause-ok g c e reads =
