@@ -11,7 +11,9 @@ ghost use Rattle.commands.specs.Exchanges.{query_for, AreMessage, AreLinesOf, Ar
 use authority::Catalog;
 use causes::Cause;
 use dname::Name;
-use front::{Outcome, Query, Request, answer_local, read_query, refusal_bytes, reply_bytes};
+use front::{
+    Outcome, Query, Request, answer_local, lent_echo, read_query, refusal_bytes, reply_bytes,
+};
 use memory::{Heap, Starved};
 use rdata::{INTERNET, RType, Records};
 use reply_lines::put_reply_bytes;
@@ -46,7 +48,7 @@ fn lines_of<A: Heap>(
     match asked {
         Request::Drop => Ok(String::new(alloc)),
         Request::Refuse(refusal, start, echo) => {
-            let reply = refusal_bytes(&mut Writer::new(alloc)?, *refusal, *start, echo.as_ref())?;
+            let reply = refusal_bytes(&mut Writer::new(alloc)?, *refusal, *start, lent_echo(echo))?;
             Ok(printed(alloc, &reply, None)?)
         }
         Request::Query(query) => Ok(answer_lines(alloc, catalog, query)?),

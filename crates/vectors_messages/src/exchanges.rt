@@ -6,7 +6,7 @@ use authority::Catalog;
 use causes::Cause;
 use dname::Name;
 use front::{
-    End, Outcome, Query, Refusal, Request, SharedQuery, Start, answer_local, read_query,
+    End, Outcome, Query, Refusal, Request, SharedQuery, Start, answer_local, lent_echo, read_query,
     refusal_bytes, reply_bytes,
 };
 use memory::Starved;
@@ -34,7 +34,7 @@ fn put_request(alloc: Global, bytes: &[u8], out: &mut String) -> Answer {
     match read_query(alloc, bytes)? {
         Request::Drop => Ok(out.push_str("dropped\n")?),
         Request::Refuse(refusal, start, echo) => {
-            put_refused(alloc, refusal, start, echo.as_ref(), out)
+            put_refused(alloc, refusal, start, lent_echo(&echo), out)
         }
         Request::Query(query) => put_query(&query, out),
     }

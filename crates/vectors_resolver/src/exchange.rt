@@ -5,10 +5,10 @@ use crate::row::Row;
 use crate::shown::put_action;
 use causes::Cause;
 use events::{Action, Ask, Bytes, ClientQuery, Path, read_asked, refuse, reply_to, send};
-use front::{Outcome, Refusal, Request, Start};
+use front::{BoxedEcho, Outcome, Refusal, Request, Start, lent_echo};
 use std::alloc::Global;
 use text_lines::LineKind;
-use wire::{Echo, TCP_LIMIT, Via, Writer};
+use wire::{TCP_LIMIT, Via, Writer};
 
 const PORT: u16 = 53;
 
@@ -93,10 +93,10 @@ fn refused(
     way: Via,
     refusal: Refusal,
     start: Start,
-    echo: &Option<Echo>,
+    echo: &Option<BoxedEcho>,
 ) -> Result<Action, LineKind> {
     let mut writer = Writer::new(alloc)?;
-    Ok(refuse(&mut writer, client, way, refusal, start, echo.as_ref())?)
+    Ok(refuse(&mut writer, client, way, refusal, start, lent_echo(echo))?)
 }
 
 // What the client gets; nothing where there is nothing to answer.
