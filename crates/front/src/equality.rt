@@ -1,8 +1,8 @@
 //! Equality of queries and of their answers.
 ghost use Rattle.std.specs.Prelude.{◌≡◌, ◌↔◌, IsTrue};
 
-use crate::boxed::BoxedEcho;
 use crate::queries::{End, Outcome, Query, Request};
+use crate::shared::SharedEcho;
 use dname::Name;
 use rdata::RType;
 use std::alloc::Allocator;
@@ -44,7 +44,7 @@ impl<A: Allocator> Request<A> {
 
 /// Whether both are the same question in the same letters, or none.
 #[tactic(auto, using(wire::proofs::Exact::exact))]
-pub fn same_echo<A: Allocator>(echo: &Option<BoxedEcho<A>>, other: &Option<BoxedEcho<A>>) -> bool
+pub fn same_echo<A: Allocator>(echo: &Option<SharedEcho<A>>, other: &Option<SharedEcho<A>>) -> bool
     ensures { IsTrue result ↔ (echo.now ≡ other.now) }
 {
     match (echo, other) {

@@ -2,7 +2,7 @@
 //! written.
 //!
 //! `read_query` reads a client's bytes: they are dropped, refused (FORMERR, or NOTIMP with the question to repeat,
-//! `BoxedEcho`), or a `Query`, shared by count (`SharedQuery`). `answer_local` answers a query with RD clear from a
+//! `SharedEcho`), or a `Query`, shared by count (`SharedQuery`). `answer_local` answers a query with RD clear from a
 //! catalog: the CNAME chain through local zones, at most eight long, and its end; a referral at a zone cut; or REFUSED.
 //! `reply_bytes` writes the reply of an `Outcome`, truncated over UDP where it is longer than 512 bytes;
 //! `refusal_bytes` that of a refusal.
@@ -22,7 +22,6 @@
 //! ```
 #![tactic(auto)]
 
-mod boxed;
 mod copies;
 mod equality;
 mod follow;
@@ -33,12 +32,11 @@ mod reply;
 mod shared;
 mod start;
 
-pub use boxed::{BoxedEcho, lent_echo};
 pub use equality::same_echo;
 pub use follow::{Step, alias_target, answer_local};
 pub use laws::{echo_is_question, local_answer_is_one, reading_is_one};
 pub use queries::{End, Outcome, Query, Refusal, Request};
 pub use read::read_query;
 pub use reply::{refusal_bytes, refusal_is_message, reply_bytes, reply_is_message};
-pub use shared::SharedQuery;
+pub use shared::{SharedEcho, SharedQuery, lent_echo};
 pub use start::Start;

@@ -4,8 +4,7 @@ ghost use Rattle.std.specs.Option.{option_copied};
 ghost use Rattle.rdata.specs.Rows.{in_set};
 ghost use Rattle.front.specs.Replies.{refusal_rcode, end_rcode, found_in, denied_by};
 
-use crate::boxed::BoxedEcho;
-use crate::shared::SharedQuery;
+use crate::shared::{SharedEcho, SharedQuery};
 use crate::start::Start;
 use causes::Cause;
 use dname::Name;
@@ -53,7 +52,7 @@ pub enum Request<A: Allocator = Global> {
     /// Dropped: under 12 bytes, or a reply.
     Drop,
     /// A refusal, with the question to repeat, if there is one.
-    Refuse(Refusal, Start, Option<BoxedEcho<A>>),
+    Refuse(Refusal, Start, Option<SharedEcho<A>>),
     /// A query, shared by all that hold it.
     Query(SharedQuery<A>),
 }

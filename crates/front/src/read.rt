@@ -3,9 +3,8 @@ ghost use Rattle.std.specs.Prelude.{◌≡◌, ◌≤◌, ◌<◌, IfOk, IsOk, l
 ghost use Rattle.front.specs.Openings.{opening_of};
 ghost use Rattle.front.specs.Queries.{IsRequest, by_question};
 
-use crate::boxed::BoxedEcho;
 use crate::queries::{Query, Refusal, Request};
-use crate::shared::SharedQuery;
+use crate::shared::{SharedEcho, SharedQuery};
 use crate::start::Start;
 use dname::Name;
 use memory::{Heap, Starved};
@@ -60,7 +59,7 @@ fn sort_question<A: Heap>(
             Ok(Request::Query(SharedQuery::new(alloc, query)?))
         }
         _ => {
-            let echo = BoxedEcho::new(alloc, echo)?;
+            let echo = SharedEcho::new(alloc, echo)?;
             Ok(Request::Refuse(Refusal::NotImp, start, Some(echo)))
         }
     }

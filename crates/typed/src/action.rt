@@ -1,6 +1,6 @@
 //! Actions that are not written yet.
 use events::{Ask, ClientQuery};
-use front::{BoxedEcho, Outcome, Refusal, Start};
+use front::{Outcome, Refusal, SharedEcho, Start};
 use std::alloc::{Allocator, Global};
 use wire::Via;
 
@@ -27,7 +27,7 @@ pub enum TypedAction<A: Allocator = Global> {
         /// The fields of their header that the reply repeats.
         start: Start,
         /// Their question, if there is one.
-        echo: Option<BoxedEcho<A>>,
+        echo: Option<SharedEcho<A>>,
     },
     /// An ask of a server.
     Ask {

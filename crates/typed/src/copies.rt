@@ -4,7 +4,7 @@ ghost use Rattle.std.specs.Prelude.{◌≡◌, IfOk};
 use crate::action::{TypedAction, TypedActions};
 use crate::boxed::BoxedReading;
 use crate::event::Parsed;
-use front::BoxedEcho;
+use front::SharedEcho;
 use memory::{Heap, Starved};
 
 impl<A: Heap> Parsed<A> {
@@ -95,7 +95,7 @@ impl<A: Heap> TypedAction<A> {
     }
 }
 
-fn copied_echo<A: Heap>(echo: &Option<BoxedEcho<A>>) -> Result<Option<BoxedEcho<A>>, Starved>
+fn copied_echo<A: Heap>(echo: &Option<SharedEcho<A>>) -> Result<Option<SharedEcho<A>>, Starved>
     ensures { IfOk result (λ e. e ≡ echo.now) }
 {
     match echo {

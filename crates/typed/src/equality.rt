@@ -9,7 +9,7 @@ use crate::boxed::BoxedReading;
 use crate::event::Parsed;
 use classify::Reading;
 use events::{Ask, ClientQuery, Endpoint};
-use front::{BoxedEcho, Outcome, Refusal, Request, Start, same_echo};
+use front::{Outcome, Refusal, Request, SharedEcho, Start, same_echo};
 use std::alloc::Allocator;
 use wire::Via;
 
@@ -144,7 +144,7 @@ impl<A: Allocator> TypedAction<A> {
         by: Via,
         why: Refusal,
         opening: Start,
-        question: &Option<BoxedEcho<A>>,
+        question: &Option<SharedEcho<A>>,
     ) -> bool
         ensures { IsTrue result ↔ (self.now ≡ said.Refusal to by why opening question.now) }
     {

@@ -7,7 +7,7 @@ ghost use Rattle.typed.specs.Views.{said_view};
 use crate::action::TypedAction;
 use crate::laws::{ask_law, refusal_law, reply_law};
 use events::{Ask, ClientQuery};
-use front::{BoxedEcho, Outcome, Refusal, Start, lent_echo};
+use front::{Outcome, Refusal, SharedEcho, Start, lent_echo};
 use memory::{Heap, Starved};
 use wire::Via;
 
@@ -29,7 +29,7 @@ pub fn refuse<A: Heap>(
     way: Via,
     refusal: Refusal,
     start: Start,
-    echo: Option<BoxedEcho<A>>,
+    echo: Option<SharedEcho<A>>,
 ) -> TypedAction<A>
     ensures { IsRefusal client way refusal start echo (said_view result) }
 {

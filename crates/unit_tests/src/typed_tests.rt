@@ -446,19 +446,18 @@ fn each_growth_of_reading_is_refused_in_turn(rt: HostRuntime) -> Result<(), Fail
 #[test]
 fn copies_of_events_are_the_same(rt: HostRuntime) -> Result<(), Fail> {
     let heap = Refusing::new(rt.alloc());
-    // None for a query, which is shared. One for the name of the question that is refused; two for each answer, whose
-    // data are shared; two for the denial and three for the referral, whose other names are short. And one more for
-    // each of these, as it lies in memory of its own.
-    assert_eq!(rt; copies_of_events(&heap)?, (None, 24, None));
+    // None for a query and for the question that is refused, which are shared. Two for each answer, whose data are
+    // shared; two for the denial and three for the referral, whose other names are short. And one more for each of
+    // these readings, as it lies in memory of its own.
+    assert_eq!(rt; copies_of_events(&heap)?, (None, 22, None));
     Ok(())
 }
 
 #[test]
 fn copies_of_actions_are_the_same(rt: HostRuntime) -> Result<(), Fail> {
     let heap = Refusing::new(rt.alloc());
-    // None for a query, which is shared; four for each answer, whose data are shared; two for the denial and two for
-    // the referral, whose names are short; two for the question that is refused, which lies in memory of its own, and
-    // one for each ask.
-    assert_eq!(rt; copies_of_actions(&heap)?, (None, 17, None));
+    // None for a query and for the question that is refused, which are shared; four for each answer, whose data are
+    // shared; two for the denial and two for the referral, whose names are short; one for each ask.
+    assert_eq!(rt; copies_of_actions(&heap)?, (None, 15, None));
     Ok(())
 }

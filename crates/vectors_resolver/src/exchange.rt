@@ -5,7 +5,7 @@ use crate::row::Row;
 use crate::shown::put_action;
 use causes::Cause;
 use events::{Action, Ask, Bytes, ClientQuery, Path, read_asked, refuse, reply_to, send};
-use front::{BoxedEcho, Outcome, Refusal, Request, Start, lent_echo};
+use front::{SharedEcho, Outcome, Refusal, Request, Start, lent_echo};
 use std::alloc::Global;
 use text_lines::LineKind;
 use wire::{TCP_LIMIT, Via, Writer};
@@ -93,7 +93,7 @@ fn refused(
     way: Via,
     refusal: Refusal,
     start: Start,
-    echo: &Option<BoxedEcho>,
+    echo: &Option<SharedEcho>,
 ) -> Result<Action, LineKind> {
     let mut writer = Writer::new(alloc)?;
     Ok(refuse(&mut writer, client, way, refusal, start, lent_echo(echo))?)
