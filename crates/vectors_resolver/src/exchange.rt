@@ -5,7 +5,7 @@ use crate::row::Row;
 use crate::shown::put_action;
 use causes::Cause;
 use events::{Action, Ask, Bytes, ClientQuery, Path, read_asked, refuse, reply_to, send};
-use front::{SharedEcho, Outcome, Refusal, Request, Start, lent_echo};
+use front::{Outcome, Refusal, Request, SharedEcho, Start, lent_echo};
 use std::alloc::Global;
 use text_lines::LineKind;
 use wire::{TCP_LIMIT, Via, Writer};
