@@ -1,19 +1,20 @@
 -- What is found: from what is kept, and from the zones at hand.
-use Rattle.std.proofs.Common.{◌≡◌, ◌≢◌, ℕ, Bool, true, false, not, inl, inr, Option, Some, None, List, refl, sym, ap, subst, ◌∙◌}
-use Rattle.std.specs.Prelude.{IsTrue}
+use Rattle.std.proofs.Common.{◌≡◌, ◌≢◌, ℕ, Bool, true, false, not, inl, inr, Option, Some, None, Result, Ok, Err, List, refl, sym, ap, subst, ◌∙◌}
+use Rattle.std.specs.Prelude.{IsTrue, IfOk}
 use Rattle.std.proofs.lemmas.Bool.{both_ways, not-true}
-use Rattle.dname.specs.Labels.{Name, root, same_name, IsAtOrUnder}
+use Rattle.dname.specs.Labels.{Name, root, same_name, IsAtOrUnder, IsName}
 use Rattle.dname.specs.Laws.{same_name-exact, same_name-equal}
 use Rattle.rdata.specs.Records.{Record}
 use Rattle.zone.specs.Zones.{Zone, IsBeneath}
 use Rattle.zone.specs.Look as local
 use Rattle.authority.specs.Catalogs.{IsLooked, looked}
 use Rattle.referral.specs.Cuts.{Cut}
-use Rattle.cache.specs.Cached.{Question, asked_to, lent, hit_of, IsHeld}
-use Rattle.resolution.specs.Jobs.{Home, Stores, IsCutOf}
+use Rattle.cache.specs.Cached.{Hit, Question, asked_to, lent, hit_of, IsHeld}
+use Rattle.resolution.specs.Jobs.{Home, Stores, Taken, kept_link, IsCutOf}
+use Rattle.resolution.proofs.Looked.{miss_stays}
 use Rattle.resolution.specs.Rules.{Says, IsRemote, asked_by, asked_of, Begins}
 use Rattle.lookup.specs.Views.{after_look}
-use Rattle.lookup.specs.Found.{IsFound, IsKept, IsDeeper, IsBegun}
+use Rattle.lookup.specs.Found.{IsFound, IsHit, IsKept, IsDeeper, IsBegun, IsStart, IsBeyond}
 use Rattle.lookup.specs.declared.lookup.Found.{Found}
 use Rattle.lookup.specs.declared.lookup.Found.TheVariants as found
 use Rattle.lookup.specs.declared.lookup.Kept.{Kept}
@@ -89,3 +90,41 @@ found_is home now n t old top what (kept.Best best) (found.Start c) new asked sa
   begins = begins;
   stores = h.stores;
 }
+
+-- Where no local zone is over the name.
+pub beyond_is : {A : Type 0} (home : Home) (now : ℕ) (n : Name) (t : ℕ) (old : Stores) (f : Found A) (new : Stores) → Says home n t local.NotHere → IsRemote home n t → IsBeyond home now n t old f new → IsFound home now n t old f new
+beyond_is home now n t old f new says remote h = found_is home now n t old root local.NotHere h.known f new (asked_nowhere home n t root refl says) says remote h.is_known h.begun
+
+-- A link of the cache is the result, where no local zone is over the name.
+pub hit_beyond : {A : Type 0} (home : Home) (now : ℕ) (n : Name) (t : ℕ) (old : Stores) (top : Name) (given : Option Hit) (hit : Hit) (l : Taken) (new : Stores) → top ≡ root → given ≡ Some hit
+    → given ≡ hit_of (lent (asked_to top n t) now old.cache) → IsHeld (asked_to top n t) now old.cache hit → l ≡ kept_link n hit → new ≡ after_look old (asked_to top n t) now → IsBeyond {A = A} home now n t old (found.Known l) new
+hit_beyond home now n t old top given hit l new nowhere is value held link stores = record {
+  known = kept.Hit l;
+  is_known = subst (λ (m : Name). IsHit m now n t old l new) nowhere (record {
+    hit = hit;
+    found = sym value ∙ is;
+    held = held;
+    link = link;
+    stores = stores;
+  });
+  begun = refl;
+}
+
+-- Where the cache has none, the result is where the search starts.
+pub start_beyond_is : {A E : Type 0} (home : Home) (now : ℕ) (n : Name) (t : ℕ) (old mid : Stores) (top : Name) (given : Option Hit) (r : Result (Found A) E) (new : Stores) → IsName n → top ≡ root → given ≡ None
+    → given ≡ hit_of (lent (asked_to top n t) now old.cache) → mid ≡ after_look old (asked_to top n t) now → IfOk r (IsStart home now n mid new) → IfOk r (λ f. IsBeyond home now n t old f new)
+start_beyond_is home now n t old mid top given (Err e) new named nowhere is value stores h = h
+start_beyond_is home now n t old mid top given (Ok f) new named nowhere is value stores h =
+    let miss : hit_of (lent (asked_to top n t) now old.cache) ≡ None = sym value ∙ is in
+    let stays : mid ≡ old = stores ∙ miss_stays (asked_to top n t) now old miss in
+    let start : IsStart home now n old new f = subst (λ (s : Stores). IsStart home now n s new f) stays h in
+    record {
+      known = kept.Best start.best;
+      is_known = record {
+        name = named;
+        miss = subst (λ (m : Name). hit_of (lent (asked_to m n t) now old.cache) ≡ None) nowhere miss;
+        is_best = start.is_best;
+        stores = start.stores;
+      };
+      begun = start.begun;
+    }

@@ -1,6 +1,6 @@
 -- The result of a look-up without a query to a server.
 use Rattle.std.specs.Prelude.{◌≡◌, ℕ, Option, Some, None}
-use Rattle.dname.specs.Labels.{Name, IsName}
+use Rattle.dname.specs.Labels.{Name, IsName, root}
 use Rattle.zone.specs.Zones.{IsBeneath}
 use Rattle.zone.specs.Look as local
 use Rattle.referral.specs.Cuts.{Cut, IsBest}
@@ -49,3 +49,17 @@ IsBegun home n what (kept.Hit l) (found.Known k) = k ≡ l
 IsBegun home n what (kept.Hit l) (found.Start c) = ⊥
 IsBegun home n what (kept.Best best) (found.Known k) = ⊥
 IsBegun home n what (kept.Best best) (found.Start c) = Begins home n what best c
+
+-- The cut where servers are sought first, where no local zone is over the name: by the deepest one that is cached.
+pub record IsStart {A : Type 0} (home : Home) (now : ℕ) (n : Name) (old new : Stores) (f : Found A) : Type 0 where
+  pub best : Option Cut
+  pub is_best : IsBest n now old.delegations best
+  pub begun : IsBegun home n local.NotHere (kept.Best best) f
+  pub stores : new ≡ after_best old n now
+
+-- The result where no local zone is over the name: of the cache and the delegations, where an NXDOMAIN of any name above
+-- counts.
+pub record IsBeyond {A : Type 0} (home : Home) (now : ℕ) (n : Name) (t : ℕ) (old : Stores) (f : Found A) (new : Stores) : Type 0 where
+  pub known : Kept A
+  pub is_known : IsKept root now n t old known new
+  pub begun : IsBegun home n local.NotHere known f

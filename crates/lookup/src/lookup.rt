@@ -2,14 +2,15 @@
 ghost use Rattle.std.specs.Prelude.{◌↔◌, IsTrue, IfOk, OnErr};
 ghost use Rattle.rdata.specs.Types.{type_number};
 ghost use Rattle.zone.specs.Zones.{IsBeneath};
-ghost use Rattle.dname.specs.Labels.{Name as NameSpec};
+ghost use Rattle.dname.specs.Labels.{Name as NameSpec, root};
 ghost use Rattle.zone.specs.Look.{Cut as CutSpec, NotHere};
 ghost use Rattle.resolution.specs.Jobs.{Home as HomeSpec};
 ghost use Rattle.resolution.specs.Rules.{Begins};
 ghost use Rattle.resolution.specs.Stops.{LooksInPart};
-ghost use Rattle.lookup.specs.Found.{IsFound, IsKept, IsDeeper, IsBegun};
+ghost use Rattle.lookup.specs.Found.{IsFound, IsKept, IsDeeper, IsBegun, IsStart, IsBeyond};
 ghost use Rattle.cache.specs.Cached.{asked_to};
-ghost use Rattle.lookup.specs.Uses.{IsAskedInPart};
+ghost use Rattle.lookup.specs.declared.lookup.Kept.TheVariants.{Best};
+ghost use Rattle.lookup.specs.Uses.{IsAskedInPart, IsBestInPart};
 
 use crate::home::Home;
 use crate::made::cut_of;
@@ -119,15 +120,49 @@ fn found_under<A: Heap>(
     }
 }
 
-// The result where no local zone is over the name.
-fn found_beyond<A: Heap>(home: &Home<A>, kept: Kept<A>) -> Result<Found<A>, Starved>
-    ensures { (n : NameSpec) → IfOk result (IsBegun home.now n NotHere kept) }
+// The cut where servers are sought, where no local zone is over the name: the deepest cached one, or the root's.
+fn found_beyond<A: Heap>(home: &Home<A>, best: Option<Cut<A>>) -> Result<Found<A>, Starved>
+    ensures { (n : NameSpec) → IfOk result (IsBegun home.now n NotHere (Best best)) }
 {
-    match kept {
-        Kept::Hit(link) => Ok(Found::Known(link)),
-        Kept::Best(Some(cut)) => Ok(Found::Start(cut)),
-        Kept::Best(None) => Ok(Found::Start(home.root().clone()?)),
+    match best {
+        Some(cut) => Ok(Found::Start(cut)),
+        None => Ok(Found::Start(home.root().clone()?)),
     }
+}
+
+// The link of the cache, where no local zone is over the name, or else the cut where servers are sought. It is made as
+// the result at once: a link is long, and moved where it is handed on.
+fn find_beyond<S: BuildHasher + Drop, A: Heap>(
+    home: &Home<A>,
+    name: &Name<A>,
+    kind: RType,
+    stores: &mut Stores<S, A>,
+    now: u64,
+) -> Result<Found<A>, Starved>
+    ensures beyond { IfOk result (λ f. IsBeyond home.now now name.now (type_number kind) stores.old f stores.new) }
+    ensures part { OnErr result (IsAskedInPart (asked_to root name.now (type_number kind)) now stores.old stores.new) }
+{
+    name.well_formed_law();
+    match stores.look(name, kind, home.root_name(), now)? {
+        Some(hit) => Ok(Found::Known(Taken::cached(name, hit)?)),
+        None => start_beyond(home, name, stores, now),
+    }
+}
+
+// The cut where servers are sought, where neither a local zone is over the name nor a link is cached. Kept apart from
+// `find_beyond`, which would make the room for a cut each time.
+#[inline(never)]
+fn start_beyond<S: BuildHasher + Drop, A: Heap>(
+    home: &Home<A>,
+    name: &Name<A>,
+    stores: &mut Stores<S, A>,
+    now: u64,
+) -> Result<Found<A>, Starved>
+    ensures start { IfOk result (IsStart home.now now name.now stores.old stores.new) }
+    ensures part { OnErr result (IsBestInPart name.now now stores.old stores.new) }
+{
+    let best = stores.best(name, now)?;
+    Ok(found_beyond(home, best)?)
 }
 
 /// The result for a name and a type at the moment `now`, in milliseconds: the link of the local zones, else that of the
@@ -160,9 +195,6 @@ pub fn find<S: BuildHasher + Drop, A: Heap>(
                 }
             }
         }
-        Local::NotHere => {
-            let kept = find_kept(name, kind, home.root_name(), stores, now)?;
-            Ok(found_beyond(home, kept)?)
-        }
+        Local::NotHere => { Ok(find_beyond(home, name, kind, stores, now)?) }
     }
 }
