@@ -7,7 +7,7 @@ use book::{Book, Entry, Machine, Measured, Ticket};
 use memory::{Heap, Starved};
 use std::alloc::{Allocator, Global};
 use std::sync::ledger::Ledger;
-use std::sync::{Mutex, Wait};
+use std::sync::{Mutex, MutexGuard, Wait};
 
 /// A machine that many threads share: its book behind a lock. Whenever the lock is free, one history of the machine
 /// led to what the book shows.
@@ -22,6 +22,12 @@ impl<M: Machine, L: Ledger, A: Allocator> Shared<M, L, A> {
         Shared {
             book: Mutex::new(book),
         }
+    }
+
+    /// The book, for several steps in a row: its lock is taken, which waits until it is free, and held until the guard is
+    /// dropped.
+    pub fn lock<R: Wait>(&self, rt: &R) -> MutexGuard<'_, Book<M, L, A>> {
+        self.book.lock(rt)
     }
 
     /// The book, once no thread uses it any more.
@@ -64,7 +70,18 @@ pub fn take_step<M: Machine, L: Ledger, A: Heap, R: Wait>(
     ensures ok { IfOk result (λ out. EntersAndGives M.moves M.begins ticket.old event.now out ticket.new) }
     ensures err { IfErr result (IsEventRefused ticket.old ticket.new) }
 {
-    let mut book = shared.book.lock(rt);
+    step_locked(&mut shared.lock(rt), ticket, event)
+}
+
+/// The same, by a book whose lock is held.
+pub fn step_locked<M: Machine, L: Ledger, A: Heap>(
+    book: &mut Book<M, L, A>,
+    ticket: &mut Ticket<L>,
+    event: &M::Event,
+) -> Result<M::Out, PoolError>
+    ensures ok { IfOk result (λ out. EntersAndGives M.moves M.begins ticket.old event.now out ticket.new) }
+    ensures err { IfErr result (IsEventRefused ticket.old ticket.new) }
+{
     if !book.owns(ticket) {
         return Err(PoolError::Stranger);
     }

@@ -17,6 +17,12 @@ IsEntry (decision.In query) entry = entry ≡ In query
 IsEntry decision.Waits entry = entry ≡ Held
 IsEntry (decision.Refused query) entry = entry ≡ Dropped
 
+-- What is let in is the query that came.
+abbrev pub IsAdmitted : Query → Entry → Type 0
+IsAdmitted query (In it) = it ≡ query
+IsAdmitted query Held = Unit {0}
+IsAdmitted query Dropped = Unit {0}
+
 -- Why a reply is a SERVFAIL, where it is one.
 abbrev pub cause_in : {A : Type 0} → Action A → Option Cause
 cause_in (said.Reply client way bytes cause) = cause

@@ -1,6 +1,7 @@
 -- To be read: what the words of the contracts mean.
 pub mod Staff
 pub mod Steps
+pub mod Passages
 pub mod Faults
 -- Kept: what the code's own values keep.
 pub mod Addresses

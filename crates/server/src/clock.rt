@@ -23,7 +23,7 @@ pub(crate) fn pass_time<
     M: Machine<Event = TypedEvent, Out = TypedActions>,
     L: Ledger,
     R: Wait + Clock,
->(rt: &R, context: &Context<'_, M, L>, worker: &mut Worker<L>) {
+>(rt: &R, context: &Context<'_, M, L>, worker: &mut Worker<M, L>) {
     let common = context.common;
     let mut log = Log::of(common.ends);
     let mut told = 0;

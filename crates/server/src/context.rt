@@ -10,33 +10,27 @@ use crate::ends::{Ends, address_of};
 use crate::moments::Beginning;
 use crate::outbox::{Outbox, StreamAsk, StreamReply};
 use crate::poller::Poller;
-use crate::query::{Asker, Query};
-use crate::shared_admission::{Entry, Question, SharedAdmission};
+use crate::query::Query;
+use crate::shared_admission::SharedAdmission;
 use crate::tally::Arrival;
 use crate::worker::Worker;
-use admission::Held;
 use book::Machine;
 use counters::{Outcome, SocketFault};
 use crossbeam_channel::{Receiver, Sender};
-use dispatch::{Reach, client_of, hand_over, stream_reply_event};
-use events::{Action, Actions, Bytes, Endpoint, Event};
+use dispatch::{Reach, hand_over, stream_reply_event};
+use events::{Action, Actions, Event};
 use memory::Starved;
 use mio::{Events, Poll};
 use pool::{Shared, take_step};
 use std::alloc::Global;
-use std::mem::replace;
 use std::sync::Wait;
 use std::sync::atomic::{AtomicBool, Ordering};
 use std::sync::ledger::Ledger;
 use std::time::Clock;
 use typed::{TypedActions, TypedEvent, read_event, write_actions};
-use wire::Via;
 
 // More asks than one query makes: a query that comes to nothing but refused asks ends before.
 const MAX_REFUSED_HANDOVERS: u32 = 64;
-
-// How many questions are admitted in a row; the others are at the next event, or the next tick.
-const MOST_ADMITTED: u32 = 256;
 
 // How many questions get a failure in a row: as many as wait.
 const MOST_FAILED: u32 = 4_096;
@@ -107,39 +101,6 @@ pub(crate) struct Context<'a, M: Machine, L: Ledger> {
     pub common: &'a Common<'a>,
 }
 
-// What is read of an event. None for a datagram that replies to no question. The memory of a client's bytes is the room
-// of the next ones.
-fn read_whole(
-    alloc: Global,
-    event: Event,
-    room: &mut Vec<u8>,
-) -> Result<Option<TypedEvent>, Starved>
-    ensures { IfOk result (λ o. MatchOption o (RepliesToNone (event_view event)) (λ parsed. ReadAs (event_view event) parsed)) }
-{
-    let read = read_event(alloc, &event);
-    keep_room(event, room);
-    read
-}
-
-// Keeps the memory of a client's bytes.
-fn keep_room(event: Event, room: &mut Vec<u8>) {
-    match event {
-        Event::Client { bytes, .. } => *room = bytes.into_items(),
-        other => drop(other),
-    }
-}
-
-// These bytes, in that room or in a larger one.
-fn put_in_room(bytes: &[u8], room: &mut Vec<u8>) -> Result<Vec<u8>, Starved>
-    ensures { IfOk result (λ v. v.items ≡ bytes.now) }
-{
-    let alloc = *room.allocator();
-    let mut taken = replace(room, Vec::new(alloc));
-    taken.clear();
-    taken.extend_from_slice(bytes)?;
-    Ok(taken)
-}
-
 impl Common<'_> {
     /// Whether the flag is up.
     pub fn is_over(&self) -> bool {
@@ -158,24 +119,16 @@ impl Common<'_> {
         }
     }
 
-    // Counts a query, where queries are counted.
-    fn count_query(&self, query: &Query) {
+    /// Counts a query, where queries are counted.
+    pub fn count_query(&self, query: &Query) {
         if let Some(tally) = &self.ends.tally {
             tally.count_query(query);
         }
     }
 
-    // Counts what a step gave, tells admission of it, and hands it over; what came of it.
-    fn hand_out<R: Wait + Clock>(
-        &self,
-        rt: &R,
-        question: Option<Question>,
-        came: Option<Arrival>,
-        moment: u64,
-        actions: &Actions,
-    ) -> Step {
-        self.count_step(rt, came, actions);
-        self.tell_admission(rt, question, moment, Some(actions));
+    // Counts what a step gave that came with no question, tells admission of it, and hands it over; what came of it.
+    fn hand_out<R: Wait + Clock>(&self, rt: &R, moment: u64, actions: &Actions) -> Step {
+        self.count_step(rt, None, actions);
         let Some(action) = &actions.first else {
             return Step {
                 effect: StepEffect {
@@ -185,6 +138,7 @@ impl Common<'_> {
                 refused: None,
             };
         };
+        self.tell_admission(rt, moment, action);
         match self.send_out(rt, moment, action) {
             Some(number) => Step {
                 effect: NOTHING,
@@ -200,17 +154,17 @@ impl Common<'_> {
         }
     }
 
-    // The query of an event, where queries are counted. One that was held came at the moment that is given.
-    fn came(&self, event: &Event, held: Option<u64>) -> Option<Arrival> {
+    /// The query that came at that moment, where queries are counted.
+    pub fn arrival(&self, query: &Query, since: u64) -> Option<Arrival> {
         if self.ends.tally.is_some() {
-            Arrival::of(event, held)
+            Some(Arrival::of(query, since))
         } else {
             None
         }
     }
 
-    // Counts what came of a step, where it is counted.
-    fn count_step<R: Wait + Clock>(&self, rt: &R, came: Option<Arrival>, actions: &Actions) {
+    /// Counts what came of a step, where it is counted: of the query that came with it, or another one.
+    pub fn count_step<R: Wait + Clock>(&self, rt: &R, came: Option<Arrival>, actions: &Actions) {
         if let Some(tally) = &self.ends.tally
             && let Some(action) = &actions.first
         {
@@ -218,27 +172,11 @@ impl Common<'_> {
         }
     }
 
-    // Tells admission what came of a step, before that is handed over: else a reply might come before its question is
-    // noted. Those who wait for a question that failed get the failure too (RFC 9520, section 3.2).
-    fn tell_admission<R: Wait + Clock>(
-        &self,
-        rt: &R,
-        question: Option<Question>,
-        moment: u64,
-        actions: Option<&Actions>,
-    ) {
-        let action = match actions {
-            Some(actions) => actions.first.as_ref(),
-            None => None,
-        };
-        match (question, action) {
-            (Some(question), action) => self.admission.stepped(rt, question, moment, action),
-            (None, Some(action)) => {
-                self.fail_others(rt, moment, action);
-                self.admission.other_stepped(rt, action);
-            }
-            (None, None) => {}
-        }
+    // Tells admission what came of a step that came with no question, before that is handed over. Those who wait for a
+    // question that failed get the failure too (RFC 9520, section 3.2).
+    fn tell_admission<R: Wait + Clock>(&self, rt: &R, moment: u64, action: &Action) {
+        self.fail_others(rt, moment, action);
+        self.admission.other_stepped(rt, action);
     }
 
     // Where a query failed, those held for the same question get that failure.
@@ -265,8 +203,8 @@ impl Common<'_> {
         }
     }
 
-    // Hands an action over at its event's moment, to where it goes; the number of an ask over TCP that can't be made.
-    fn send_out<R: Wait + Clock>(&self, rt: &R, moment: u64, action: &Action) -> Option<u64> {
+    /// Hands an action over at its event's moment, to where it goes; the number of an ask over TCP that can't be made.
+    pub fn send_out<R: Wait + Clock>(&self, rt: &R, moment: u64, action: &Action) -> Option<u64> {
         let mut outbox = Outbox {
             rt,
             ends: self.ends,
@@ -280,196 +218,52 @@ impl Common<'_> {
 }
 
 impl<M: Machine<Event = TypedEvent, Out = TypedActions>, L: Ledger> Context<'_, M, L> {
-    /// Puts a client's datagram.
-    pub fn put_datagram<R: Wait + Clock>(
+    /// Puts an event that is no client's, and hands over what goes out; what came of it. Then who waited is admitted.
+    pub fn put<R: Wait + Clock>(
         &self,
         rt: &R,
-        worker: &mut Worker<L>,
-        from: Endpoint,
-        bytes: &[u8],
-    )
-        requires { length bytes.now ≤ 65535 }
-    {
-        let asker = Asker {
-            client: client_of(from),
-            way: Via::Udp,
-        };
-        match put_in_room(bytes, &mut worker.room) {
-            Ok(bytes) => {
-                self.put_query(rt, worker, asker, bytes);
-            }
-            Err(_) => self.common.ends.count(Outcome::MemoryRefused),
-        }
-    }
-
-    /// Puts a frame of the stream of this number; whether it will have a reply, or may have one.
-    pub fn put_frame<R: Wait + Clock>(
-        &self,
-        rt: &R,
-        worker: &mut Worker<L>,
-        number: u64,
-        bytes: Vec<u8>,
-    ) -> bool
-        requires { length bytes.items ≤ 65535 }
-    {
-        let asker = Asker {
-            client: number,
-            way: Via::Tcp,
-        };
-        self.put_query(rt, worker, asker, bytes)
-    }
-
-    // Puts what a client sent: a question that equals others which are under way waits for admission, whether they
-    // came in datagrams or on streams. Whether it will have a reply, or may have one.
-    fn put_query<R: Wait + Clock>(
-        &self,
-        rt: &R,
-        worker: &mut Worker<L>,
-        asker: Asker,
-        bytes: Vec<u8>,
-    ) -> bool
-        requires { length bytes.items ≤ 65535 }
-    {
-        let query = Query {
-            asker,
-            bytes: Bytes::new(bytes),
-        };
-        self.common.count_query(&query);
-        let moment = self.common.moment(rt);
-        match self.common.admission.question(&query) {
-            None => self.put(rt, worker, query.into_event(moment)).speaks,
-            Some(question) => {
-                let answers = self.ask_admission(rt, worker, question, moment, query);
-                self.admit_waiting(rt, worker);
-                answers
-            }
-        }
-    }
-
-    // Asks admission for a query, and puts it where that lets it in. Whether it will have a reply, or may have one.
-    fn ask_admission<R: Wait + Clock>(
-        &self,
-        rt: &R,
-        worker: &mut Worker<L>,
-        question: Question,
-        moment: u64,
-        query: Query,
-    ) -> bool {
-        match self.common.admission.admit(rt, question, moment, query) {
-            Entry::In(query) => self
-                .put_question(rt, worker, question, moment, query.into_event(moment))
-                .speaks,
-            Entry::Held => {
-                self.common.ends.count(Outcome::Held);
-                true
-            }
-            Entry::Dropped => {
-                self.common.ends.count(Outcome::Dropped(1));
-                false
-            }
-        }
-    }
-
-    // Puts the event of a question that was admitted, and came at that moment.
-    fn put_question<R: Wait + Clock>(
-        &self,
-        rt: &R,
-        worker: &mut Worker<L>,
-        question: Question,
-        came: u64,
+        worker: &mut Worker<M, L>,
         event: Event,
     ) -> StepEffect {
-        let came = self.common.came(&event, Some(came));
-        self.step(rt, worker, event, Some(question), came)
-    }
-
-    /// Puts the questions that are called in, some of them.
-    pub fn admit_waiting<R: Wait + Clock>(&self, rt: &R, worker: &mut Worker<L>) {
-        for _ in 0..MOST_ADMITTED {
-            if !self.admit_next(rt, worker) {
-                return;
-            }
-        }
-    }
-
-    // Puts the next question that is called in; whether there is one.
-    fn admit_next<R: Wait + Clock>(&self, rt: &R, worker: &mut Worker<L>) -> bool {
-        match self.common.admission.next(rt) {
-            Some(held) => {
-                self.put_held(rt, worker, held);
-                true
-            }
-            None => false,
-        }
-    }
-
-    // Puts a question that was held.
-    fn put_held<R: Wait + Clock>(&self, rt: &R, worker: &mut Worker<L>, held: Held<Query>) {
-        let Held {
-            key,
-            client,
-            since,
-            payload,
-        } = held;
-        let event = payload.into_event(self.common.moment(rt));
-        self.put_question(rt, worker, Question { key, client }, since, event);
-    }
-
-    /// Puts an event, and hands over what goes out; what came of it. Then who waited for it is admitted.
-    pub fn put<R: Wait + Clock>(&self, rt: &R, worker: &mut Worker<L>, event: Event) -> StepEffect {
-        let came = self.common.came(&event, None);
-        let effect = self.step(rt, worker, event, None, came);
+        let effect = self.step(rt, worker, event);
         self.admit_waiting(rt, worker);
         effect
     }
 
-    // Puts an event, of a question that was admitted or another one, and hands over what goes out; what came of it. An
-    // ask over TCP that can't be made has failed, which is an event again.
-    fn step<R: Wait + Clock>(
+    /// The same, where nobody is admitted. An ask over TCP that can't be made has failed, which is an event again.
+    pub fn step<R: Wait + Clock>(
         &self,
         rt: &R,
-        worker: &mut Worker<L>,
+        worker: &mut Worker<M, L>,
         event: Event,
-        question: Option<Question>,
-        came: Option<Arrival>,
     ) -> StepEffect {
-        let mut step = self.step_once(rt, worker, event, question, came);
+        let mut step = self.step_once(rt, worker, event);
         for _ in 1..MAX_REFUSED_HANDOVERS {
             let Some(number) = step.refused else {
                 break;
             };
             let event = stream_reply_event(self.common.moment(rt), number, None);
-            step = self.step_once(rt, worker, event, None, None);
+            step = self.step_once(rt, worker, event);
         }
         step.effect
     }
 
     // The same, where an ask that can't be made is no event yet.
-    fn step_once<R: Wait + Clock>(
-        &self,
-        rt: &R,
-        worker: &mut Worker<L>,
-        event: Event,
-        question: Option<Question>,
-        came: Option<Arrival>,
-    ) -> Step {
+    fn step_once<R: Wait + Clock>(&self, rt: &R, worker: &mut Worker<M, L>, event: Event) -> Step {
         let moment = event.moment();
         match self.take_step(rt, worker, event) {
             Some(actions) => {
-                let step = self.common.hand_out(rt, question, came, moment, &actions);
+                let step = self.common.hand_out(rt, moment, &actions);
                 drop(actions);
                 step
             }
-            None => {
-                self.common.tell_admission(rt, question, moment, None);
-                NO_STEP
-            }
+            None => NO_STEP,
         }
     }
 
     // Reads an event, takes the machine's step, and writes what it gives: the machine is locked for the step alone.
     // None out of memory, which is counted, and for a datagram that replies to no question.
-    fn take_step<R: Wait>(&self, rt: &R, worker: &mut Worker<L>, event: Event) -> Option<Actions>
+    fn take_step<R: Wait>(&self, rt: &R, worker: &mut Worker<M, L>, event: Event) -> Option<Actions>
         ensures { IfSome result (λ actions. IsPut M.moves M.begins worker.old.ticket (event_view event) actions worker.new.ticket) }
     {
         match self.read_and_step(rt, worker, event) {
@@ -485,12 +279,12 @@ impl<M: Machine<Event = TypedEvent, Out = TypedActions>, L: Ledger> Context<'_, 
     fn read_and_step<R: Wait>(
         &self,
         rt: &R,
-        worker: &mut Worker<L>,
+        worker: &mut Worker<M, L>,
         event: Event,
     ) -> Result<Option<Actions>, Starved>
         ensures { IfOk result (λ o. MatchOption o (RepliesToNone (event_view event)) (λ actions. IsPut M.moves M.begins worker.old.ticket (event_view event) actions worker.new.ticket)) }
     {
-        let Some(parsed) = read_whole(self.common.alloc, event, &mut worker.room)? else {
+        let Some(parsed) = read_event(self.common.alloc, &event)? else {
             return Ok(None);
         };
         let actions = self.step_and_write(rt, worker, &parsed);
@@ -503,7 +297,7 @@ impl<M: Machine<Event = TypedEvent, Out = TypedActions>, L: Ledger> Context<'_, 
     fn step_and_write<R: Wait>(
         &self,
         rt: &R,
-        worker: &mut Worker<L>,
+        worker: &mut Worker<M, L>,
         parsed: &TypedEvent,
     ) -> Result<Actions, Starved>
         ensures ok { IfOk result (λ actions. IsStepped M.moves M.begins worker.old.ticket parsed.now actions worker.new.ticket) }

@@ -3,10 +3,10 @@
 //!
 //! `Ends::open` binds the sockets for clients, UDP and TCP at one address and port. `serve_until` runs a loop a ticket,
 //! by the roles of `dispatch`: clients' datagrams (`loops` of them, at one socket), clients' streams, the clock, other
-//! servers' datagrams, asks over TCP. Each loop reaches the machine by `pool::take_step` alone. Each ask in a datagram
-//! has a socket of its own, at a port that the system picks, and only what repeats the ask is put as an event (RFC
-//! 5452, section 9.2). One loop holds all streams of clients, and one all streams to servers, and neither waits for any
-//! of them.
+//! servers' datagrams, asks over TCP. Each loop reaches the machine by `pool::take_step` and `pool::step_locked` alone:
+//! clients' datagrams that came together step under one lock. Each ask in a datagram has a socket of its own, at a port
+//! that the system picks, and only what repeats the ask is put as an event (RFC 5452, section 9.2). One loop holds all
+//! streams of clients, and one all streams to servers, and neither waits for any of them.
 //!
 //! Where its file asks for it (`Ends::showing`) it counts, by the crate `counters`, and serves what it counts
 //! over HTTP, in a loop of its own.
@@ -14,9 +14,9 @@
 //! Clients' questions pass the crate `admission` first, those in datagrams and those on streams alike.
 //!
 //! Promised: the loops are safe, and there is a ticket for each (`IsStaffed`). The actions of an event are those of one
-//! step of the machine on what was read of it, written (`IsPut`). Where replies and asks go, and which messages repeat
-//! an ask, is proved in `dispatch`, frames in `sockets`, the machine's one history in `book`, and which questions wait
-//! in `admission`.
+//! step of the machine on what was read of it, written (`IsPut`; `IsServed` of a client's message). Where replies and
+//! asks go, and which messages repeat an ask, is proved in `dispatch`, frames in `sockets`, the machine's one history in
+//! `book`, and which questions wait in `admission`.
 //! Not here: what the machine is (`engine`); lists of who may ask, and limits of how often.
 //!
 //! ```text
@@ -25,6 +25,7 @@
 //! ```
 #![tactic(auto)]
 
+mod batch;
 mod client_stream;
 mod clock;
 mod context;
@@ -38,6 +39,7 @@ mod moments;
 mod notices;
 mod open_asks;
 mod outbox;
+mod passage;
 mod places;
 mod poller;
 mod query;

@@ -86,7 +86,7 @@ fn run<
     M: Measured<Event = TypedEvent, Out = TypedActions, Sizes = StoreSizes> + Send + Sync,
     L: Ledger + Send + Sync,
     R: Net<Listener = TcpListener, Stream = TcpStream> + Threads + Wait + Clock + Sync,
->(rt: &R, context: &Context<'_, M, L>, workers: Vec<Worker<L>>) -> bool {
+>(rt: &R, context: &Context<'_, M, L>, workers: Vec<Worker<M, L>>) -> bool {
     log_start(context.common);
     thread::scope(
         thread::scope_env(),
@@ -107,7 +107,7 @@ fn start_all<
     rt: &'s R,
     scope: &Scope<'s, E>,
     context: &'s Context<'d, M, L>,
-    workers: Vec<Worker<L>>,
+    workers: Vec<Worker<M, L>>,
 ) -> bool {
     let mut well = start_counters(rt, scope, context);
     for worker in workers {
@@ -146,7 +146,7 @@ fn start<
     M: Machine<Event = TypedEvent, Out = TypedActions> + Send + Sync,
     L: Ledger + Send + Sync,
     R: Net<Listener = TcpListener, Stream = TcpStream> + Wait + Clock + Sync,
->(rt: &'s R, scope: &Scope<'s, E>, context: &'s Context<'d, M, L>, worker: Worker<L>) -> bool {
+>(rt: &'s R, scope: &Scope<'s, E>, context: &'s Context<'d, M, L>, worker: Worker<M, L>) -> bool {
     let started = scope.spawn(move || work(rt, context, worker)).is_ok();
     if !started {
         context.common.stop.store(true, Ordering::SeqCst);
@@ -159,7 +159,7 @@ fn work<
     M: Machine<Event = TypedEvent, Out = TypedActions>,
     L: Ledger,
     R: Net<Listener = TcpListener, Stream = TcpStream> + Wait + Clock,
->(rt: &R, context: &Context<'_, M, L>, worker: Worker<L>) {
+>(rt: &R, context: &Context<'_, M, L>, worker: Worker<M, L>) {
     let mut worker = worker;
     match role_of(worker.ticket.worker()) {
         Role::Datagrams => take_datagrams(rt, context, &mut worker),

@@ -82,7 +82,7 @@ pub(crate) fn ask_servers<
     M: Machine<Event = TypedEvent, Out = TypedActions>,
     L: Ledger,
     R: Net + Wait + Clock,
->(rt: &R, context: &Context<'_, M, L>, worker: &mut Worker<L>) {
+>(rt: &R, context: &Context<'_, M, L>, worker: &mut Worker<M, L>) {
     let servers = &context.common.ends.servers;
     let Ok(mut events) = Events::with_capacity(context.common.alloc, EVENTS) else {
         return;
@@ -119,7 +119,7 @@ fn advance_all<
 >(
     rt: &R,
     context: &Context<'_, M, L>,
-    worker: &mut Worker<L>,
+    worker: &mut Worker<M, L>,
     talks: &mut Slab<Talk>,
     checked: u64,
     buffer: &mut [u8],
@@ -161,7 +161,7 @@ fn stir(talks: &mut Slab<Talk>, key: usize) {
 fn begin_all<M: Machine<Event = TypedEvent, Out = TypedActions>, L: Ledger, R: Net + Wait + Clock>(
     rt: &R,
     context: &Context<'_, M, L>,
-    worker: &mut Worker<L>,
+    worker: &mut Worker<M, L>,
     talks: &mut Slab<Talk>,
 ) {
     let most = most_talks(context.common.bounds);
@@ -176,7 +176,7 @@ fn begin_all<M: Machine<Event = TypedEvent, Out = TypedActions>, L: Ledger, R: N
 fn begin_next<M: Machine<Event = TypedEvent, Out = TypedActions>, L: Ledger, R: Net + Wait + Clock>(
     rt: &R,
     context: &Context<'_, M, L>,
-    worker: &mut Worker<L>,
+    worker: &mut Worker<M, L>,
     talks: &mut Slab<Talk>,
 ) -> bool {
     match context.common.asks.try_recv(rt) {
@@ -205,7 +205,7 @@ fn begin_next<M: Machine<Event = TypedEvent, Out = TypedActions>, L: Ledger, R: 
 fn fail<M: Machine<Event = TypedEvent, Out = TypedActions>, L: Ledger, R: Wait + Clock>(
     rt: &R,
     context: &Context<'_, M, L>,
-    worker: &mut Worker<L>,
+    worker: &mut Worker<M, L>,
     number: u64,
     fault: AskFault,
 ) {
@@ -285,7 +285,7 @@ fn watch(servers: &Poller, talks: &mut Slab<Talk>, talk: Talk) -> Result<(), Ask
 fn advance<M: Machine<Event = TypedEvent, Out = TypedActions>, L: Ledger, R: Wait + Clock>(
     rt: &R,
     context: &Context<'_, M, L>,
-    worker: &mut Worker<L>,
+    worker: &mut Worker<M, L>,
     talks: &mut Slab<Talk>,
     key: usize,
     check: bool,

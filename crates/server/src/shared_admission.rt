@@ -1,7 +1,7 @@
 //! Admission of clients' questions to the resolver: of equal ones few are under way at a time, the others wait.
 ghost use Rattle.std.specs.Prelude.{◌≡◌, ◌≤◌, IfSome, length};
 ghost use Rattle.events.specs.Views.{action_view};
-ghost use Rattle.server.specs.Entries.{IsEntry, failure_copy};
+ghost use Rattle.server.specs.Entries.{IsEntry, IsAdmitted, failure_copy};
 
 use crate::query::{Asker, Query, asker_of};
 use admission::{Admission, Decision, Held, Limits};
@@ -10,7 +10,7 @@ use events::{Action, Bytes};
 use std::alloc::Global;
 use std::hash::{DefaultHasher, Hasher};
 use std::sync::atomic::{AtomicBool, Ordering};
-use std::sync::{Mutex, Wait};
+use std::sync::{Mutex, MutexGuard, Wait};
 
 // Equal questions that are under way at a time.
 const EQUAL: usize = 4;
@@ -58,6 +58,19 @@ fn entry_of(decision: Decision<Query>) -> Entry
         Decision::Waits => Entry::Held,
         Decision::Refused(_) => Entry::Dropped,
     }
+}
+
+/// Asks for admission for a question that came at this moment in that query.
+pub(crate) fn ask_for(
+    admission: &mut Admission<Query>,
+    question: Question,
+    moment: u64,
+    query: Query,
+) -> Entry
+    ensures { IsAdmitted query result }
+{
+    let Question { key, client } = question;
+    entry_of(admission.admit(key, client, moment, query))
 }
 
 // The failure of a query, with these bytes, as the reply to an equal one.
@@ -137,31 +150,17 @@ impl SharedAdmission {
         })
     }
 
-    /// A question comes.
-    pub fn admit<R: Wait>(&self, rt: &R, question: Question, moment: u64, query: Query) -> Entry {
-        let Question { key, client } = question;
-        entry_of(self.admission.lock(rt).admit(key, client, moment, query))
+    /// Admission for several questions in a row, held until the guard is dropped. Then `note_called` is due before.
+    pub fn lock<R: Wait>(&self, rt: &R) -> MutexGuard<'_, Admission<Query>> {
+        self.admission.lock(rt)
     }
 
-    /// The step of a question gave this.
-    pub fn stepped<R: Wait>(
-        &self,
-        rt: &R,
-        question: Question,
-        moment: u64,
-        action: Option<&Action>,
-    ) {
+    /// The step of a question was lost.
+    pub fn settle<R: Wait>(&self, rt: &R, question: Question) {
         let Question { key, client } = question;
-        match action {
-            Some(Action::Send { .. } | Action::TcpAsk { .. }) => {
-                self.admission.lock(rt).opened(key, client, moment);
-            }
-            Some(Action::Reply { .. }) | None => {
-                let mut admission = self.admission.lock(rt);
-                admission.settled(key, client);
-                self.note_called(&admission);
-            }
-        }
+        let mut admission = self.admission.lock(rt);
+        admission.settled(key, client);
+        self.note_called(&admission);
     }
 
     /// Another step gave this. Where it is a reply to a client, its question is no longer open.
@@ -175,9 +174,9 @@ impl SharedAdmission {
         }
     }
 
-    // Puts the flag up where someone is called in, while admission is held: most answers call in nobody, and then no
-    // loop asks for whom.
-    fn note_called(&self, admission: &Admission<Query>) {
+    /// Puts the flag up where someone is called in, while admission is held: most answers call in nobody, and then no
+    /// loop asks for whom.
+    pub fn note_called(&self, admission: &Admission<Query>) {
         if 0 < admission.ready() {
             self.called.store(true, Ordering::SeqCst);
         }

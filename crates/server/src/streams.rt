@@ -30,7 +30,7 @@ pub(crate) fn take_streams<
     M: Machine<Event = TypedEvent, Out = TypedActions>,
     L: Ledger,
     R: Wait + Clock,
->(rt: &R, context: &Context<'_, M, L>, worker: &mut Worker<L>) {
+>(rt: &R, context: &Context<'_, M, L>, worker: &mut Worker<M, L>) {
     let streams = &context.common.ends.streams;
     let Ok(mut events) = Events::with_capacity(context.common.alloc, EVENTS) else {
         return;
@@ -79,7 +79,7 @@ fn await_streams(
 fn serve_places<M: Machine<Event = TypedEvent, Out = TypedActions>, L: Ledger, R: Wait + Clock>(
     rt: &R,
     context: &Context<'_, M, L>,
-    worker: &mut Worker<L>,
+    worker: &mut Worker<M, L>,
     places: &mut Places,
     waits: bool,
     buffer: &mut [u8],
@@ -132,7 +132,7 @@ fn put_reply(places: &mut Places, now: u64, reply: StreamReply) {
 fn take_questions<M: Machine<Event = TypedEvent, Out = TypedActions>, L: Ledger, R: Wait + Clock>(
     rt: &R,
     context: &Context<'_, M, L>,
-    worker: &mut Worker<L>,
+    worker: &mut Worker<M, L>,
     places: &mut Places,
     key: usize,
     buffer: &mut [u8],
@@ -155,7 +155,7 @@ fn take_questions<M: Machine<Event = TypedEvent, Out = TypedActions>, L: Ledger,
 fn take_question<M: Machine<Event = TypedEvent, Out = TypedActions>, L: Ledger, R: Wait + Clock>(
     rt: &R,
     context: &Context<'_, M, L>,
-    worker: &mut Worker<L>,
+    worker: &mut Worker<M, L>,
     client: &mut ClientStream,
     buffer: &mut [u8],
 ) -> bool {

@@ -6,7 +6,7 @@ use crate::query::{Asker, Query};
 use causes::Cause;
 use counters::{COUNTERS, Cells, Counter, Outcome, Reply, Way, count};
 use dispatch::question_end;
-use events::{Action, Event};
+use events::Action;
 use std::alloc::Global;
 use std::sync::{Mutex, Wait};
 
@@ -25,23 +25,12 @@ pub(crate) struct Arrival {
 }
 
 impl Arrival {
-    /// The query of an event that is one. One that was held came at the moment that is given.
-    pub fn of(event: &Event, held: Option<u64>) -> Option<Arrival> {
-        match event {
-            Event::Client {
-                moment,
-                client,
-                way,
-                bytes,
-            } => Some(Arrival {
-                asker: Asker {
-                    client: *client,
-                    way: *way,
-                },
-                id: id_of(bytes.as_slice()),
-                moment: held.unwrap_or(*moment),
-            }),
-            _ => None,
+    /// The query, which came at that moment.
+    pub fn of(query: &Query, moment: u64) -> Arrival {
+        Arrival {
+            asker: query.asker,
+            id: id_of(query.bytes.as_slice()),
+            moment,
         }
     }
 }

@@ -57,7 +57,7 @@ pub(crate) fn take_answers<
     M: Machine<Event = TypedEvent, Out = TypedActions>,
     L: Ledger,
     R: Wait + Clock,
->(rt: &R, context: &Context<'_, M, L>, worker: &mut Worker<L>) {
+>(rt: &R, context: &Context<'_, M, L>, worker: &mut Worker<M, L>) {
     let asks = &context.common.ends.asks;
     let Ok(mut events) = Events::with_capacity(context.common.alloc, EVENTS) else {
         return;
@@ -99,7 +99,7 @@ fn sweep<R: Wait + Clock>(rt: &R, common: &Common<'_>, swept: u64, counted: &mut
 fn take_answer<M: Machine<Event = TypedEvent, Out = TypedActions>, L: Ledger, R: Wait + Clock>(
     rt: &R,
     context: &Context<'_, M, L>,
-    worker: &mut Worker<L>,
+    worker: &mut Worker<M, L>,
     key: usize,
     buffer: &mut [u8; MOST_BYTES],
 ) {

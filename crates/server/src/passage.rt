@@ -1,0 +1,218 @@
+//! Clients' messages on their way through the machine: each is read before the lock is taken, its step is taken while it
+//! is held, and what that gives is written behind it.
+ghost use Rattle.std.specs.Prelude.{◌≡◌, Some, IfOk, IfSome, OnOk, IfErr};
+ghost use Rattle.std.specs.Bool.{OnTrue};
+ghost use Rattle.runs.specs.States.{Client};
+ghost use Rattle.events.specs.Views.{event_view};
+ghost use Rattle.typed.specs.Events.{ReadAs};
+ghost use Rattle.pool.specs.Closings.{IsEventRefused};
+ghost use Rattle.server.specs.Passages.{IsAnswered, TakesStep};
+
+use crate::query::{Asker, Query};
+use crate::shared_admission::{Entry, Question, ask_for};
+use crate::tally::Arrival;
+use admission::Admission;
+use book::{Book, Machine, Ticket};
+use events::{Actions, Event};
+use memory::Starved;
+use pool::{PoolError, step_locked};
+use std::alloc::Global;
+use std::marker::{Model, PhantomData};
+use std::sync::ledger::Ledger;
+use typed::{TypedAction, TypedActions, TypedEvent, read_event, write_actions};
+use wire::Writer;
+
+/// How a message stands in admission.
+#[derive(Clone, Copy)]
+pub(crate) enum Standing {
+    /// It needs none: it asks no plain question.
+    Free,
+    /// It is still to ask for it.
+    Asks(Question),
+    /// It was admitted.
+    Admitted(Question),
+    /// It waits there.
+    Held,
+    /// It was dropped.
+    Dropped,
+}
+
+/// A client's message that was read, and what its step gave. Contracts see the event, unless it waits in admission.
+#[derive(Drop)]
+pub(crate) struct Passage<M: Machine<Event = TypedEvent, Out = TypedActions>> {
+    /// How it stands in admission.
+    pub standing: Standing,
+    /// Whose it is and when it came, where queries are counted.
+    pub came: Option<Arrival>,
+    moment: u64,
+    query: Option<Query>,
+    parsed: TypedEvent,
+    given: Option<TypedActions>,
+    // Which machine's step it takes.
+    machine: PhantomData<M>,
+}
+
+impl<M: Machine<Event = TypedEvent, Out = TypedActions>> Model for Passage<M> {
+    ghost use Rattle.server.specs.Passages.{PassageView, IsOnItsWay, passage_view};
+    ghost use Rattle.std.specs.Global.{Global};
+    ghost use Rattle.typed.specs.declared.action.TypedActions.{TypedActions};
+
+    ghost Value = { PassageView (TypedActions Global) };
+
+    ghost view = { λ p. passage_view p.moment p.query p.parsed p.given };
+
+    ghost invariant = { λ p. IsOnItsWay M.moves M.begins (passage_view p.moment p.query p.parsed p.given) };
+}
+
+impl<M: Machine<Event = TypedEvent, Out = TypedActions>> Passage<M> {
+    /// A client's query, read: it comes at this moment. None for what is no client's.
+    pub fn read(
+        alloc: Global,
+        moment: u64,
+        query: Query,
+        standing: Standing,
+        came: Option<Arrival>,
+    ) -> Result<Option<Passage<M>>, Starved>
+        ensures { IfOk result (λ o. IfSome o (λ p. p.event ≡ Some (Client moment query.asker.client query.asker.way query.bytes))) }
+    {
+        let event = query.into_event(moment);
+        match read_event(alloc, &event) {
+            Ok(Some(parsed)) => Ok(Passage::of(event, parsed, standing, came)),
+            Ok(None) => {
+                drop(event);
+                Ok(None)
+            }
+            Err(starved) => {
+                drop(event);
+                Err(starved)
+            }
+        }
+    }
+
+    // The query of a client that is this event, of which that was read. None for what is no client's.
+    fn of(
+        event: Event,
+        parsed: TypedEvent,
+        standing: Standing,
+        came: Option<Arrival>,
+    ) -> Option<Passage<M>>
+        requires { ReadAs (event_view event) parsed }
+        ensures { IfSome result (λ p. p.event ≡ Some (event_view event)) }
+    {
+        match event {
+            Event::Client {
+                moment,
+                client,
+                way,
+                bytes,
+            } => Some(Passage {
+                standing,
+                came,
+                moment,
+                query: Some(Query {
+                    asker: Asker { client, way },
+                    bytes,
+                }),
+                parsed,
+                given: None,
+                machine: PhantomData,
+            }),
+            other => {
+                drop(other);
+                drop(parsed);
+                None
+            }
+        }
+    }
+
+    /// When it came, or was called in, in milliseconds.
+    pub fn moment(&self) -> u64 {
+        self.moment
+    }
+
+    /// Asks for admission, where that is still to be done; whether its step is to be taken now.
+    pub fn enter(&mut self, admission: &mut Admission<Query>) -> bool
+        ensures { OnTrue result (self.new ≡ self.old) }
+    {
+        let Standing::Asks(question) = self.standing else {
+            return matches!(self.standing, Standing::Free | Standing::Admitted(_));
+        };
+        let Some(query) = self.query.take() else {
+            return false;
+        };
+        match ask_for(admission, question, self.moment, query) {
+            Entry::In(query) => {
+                self.query = Some(query);
+                self.standing = Standing::Admitted(question);
+                true
+            }
+            Entry::Held => {
+                self.standing = Standing::Held;
+                false
+            }
+            Entry::Dropped => {
+                self.standing = Standing::Dropped;
+                false
+            }
+        }
+    }
+
+    /// The machine takes its step.
+    pub fn step<L: Ledger>(
+        &mut self,
+        book: &mut Book<M, L>,
+        ticket: &mut Ticket<L>,
+    ) -> Result<(), PoolError>
+        ensures ok { OnOk result (TakesStep M.moves M.begins ticket.old self.old self.new ticket.new) }
+        ensures err { IfErr result (λ e. (self.new ≡ self.old) × IsEventRefused ticket.old ticket.new e) }
+    {
+        let given = step_locked(book, ticket, &self.parsed)?;
+        self.given = Some(given);
+        Ok(())
+    }
+
+    /// Tells admission what the step gave: the query is open where a server is asked, and else it is settled.
+    pub fn settle(&self, admission: &mut Admission<Query>) {
+        if let Standing::Admitted(Question { key, client }) = self.standing {
+            if self.asks() {
+                admission.opened(key, client, self.moment);
+            } else {
+                admission.settled(key, client);
+            }
+        }
+    }
+
+    // Whether its step asks a server.
+    fn asks(&self) -> bool {
+        match &self.given {
+            Some(given) => matches!(given.first, Some(TypedAction::Ask { .. })),
+            None => false,
+        }
+    }
+
+    /// What its step gave, written. None where no step was taken.
+    pub fn write(&self, alloc: Global, writer: &mut Writer) -> Result<Option<Actions>, Starved>
+        ensures { IfOk result (λ o. IfSome o (IsAnswered M.moves M.begins self.now.event)) }
+    {
+        match &self.given {
+            Some(given) => Ok(Some(write_actions(alloc, writer, given)?)),
+            None => Ok(None),
+        }
+    }
+
+    /// What came, if it does not wait in admission.
+    pub fn into_query(self) -> Option<Query> {
+        let Passage {
+            standing: _,
+            came: _,
+            moment: _,
+            query,
+            parsed,
+            given,
+            machine: _,
+        } = self;
+        drop(parsed);
+        drop(given);
+        query
+    }
+}
