@@ -1,5 +1,7 @@
 //! A book behind a lock.
-ghost use Rattle.std.specs.Prelude.{IfOk, IfErr};
+ghost use Rattle.std.specs.Prelude.{◌≡◌, IfOk, IfErr};
+ghost use Rattle.book.specs.Books.{Owns};
+ghost use Rattle.pool.specs.declared.fault.PoolError.TheVariants.{Memory};
 ghost use Rattle.pool.specs.Closings.{Enters, EntersAndGives, IsEventRefused, AreSizes};
 
 use crate::fault::PoolError;
@@ -73,7 +75,7 @@ pub fn take_step<M: Machine, L: Ledger, A: Heap, R: Wait>(
     step_locked(&mut shared.lock(rt), ticket, event)
 }
 
-/// The same, by a book whose lock is held.
+/// The same, by a book whose lock is held. A ticket of the book's, with its count, is no stranger.
 pub fn step_locked<M: Machine, L: Ledger, A: Heap>(
     book: &mut Book<M, L, A>,
     ticket: &mut Ticket<L>,
@@ -81,6 +83,7 @@ pub fn step_locked<M: Machine, L: Ledger, A: Heap>(
 ) -> Result<M::Out, PoolError>
     ensures ok { IfOk result (λ out. EntersAndGives M.moves M.begins ticket.old event.now out ticket.new) }
     ensures err { IfErr result (IsEventRefused ticket.old ticket.new) }
+    ensures owned { Owns book.old ticket.old → IfErr result (λ e. e ≡ Memory) }
 {
     if !book.owns(ticket) {
         return Err(PoolError::Stranger);
