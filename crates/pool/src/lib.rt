@@ -3,13 +3,13 @@
 //!
 //! `Shared::new` puts a book behind a lock. `submit` takes one step of its machine as the worker of a ticket, on any
 //! thread, and answers with its entry, `take_step` with what came out alone; `step_locked` takes several under
-//! one lock. `sizes` tells the sizes of its state. When all are done, `gather` takes the book (`into_book`) and what each
-//! worker `Kept`.
+//! one lock. `sizes` tells the sizes of its state. When all are done, `gather` takes the book (`into_book`) and what
+//! each worker `Kept`.
 //!
-//! Promised: a step is that worker's, on that event and with its next number (`Enters`, `EntersAndGives`), and a refusal
-//! leaves the ticket as `IsEventRefused` says. The sizes that are told are those of a state to which one history led
-//! (`AreSizes`). A history that closes is legal, and a shuffle of the lists that the workers kept (`Closes`). Of another
-//! it is said why it does not close (`IsOpen`).
+//! Promised: a step is that worker's, on that event and with its next number (`Enters`, `EntersAndGives`), and a
+//! refusal leaves the ticket as `IsEventRefused` says. The sizes that are told are those of a state to which one
+//! history led (`AreSizes`). A history that closes is legal, and a shuffle of the lists that the workers kept
+//! (`Closes`). Of another it is said why it does not close (`IsOpen`).
 //! Not here: making threads (`workers`, `server`); what the machine does (`engine`, `simnet`).
 //!
 //! ```text

@@ -26,8 +26,8 @@ impl<M: Machine, L: Ledger, A: Allocator> Shared<M, L, A> {
         }
     }
 
-    /// The book, for several steps in a row: its lock is taken, which waits until it is free, and held until the guard is
-    /// dropped.
+    /// The book, for several steps in a row: its lock is taken, which waits until it is free, and held until the guard
+    /// is dropped.
     pub fn lock<R: Wait>(&self, rt: &R) -> MutexGuard<'_, Book<M, L, A>> {
         self.book.lock(rt)
     }

@@ -105,8 +105,8 @@ impl<M: Machine<Event = TypedEvent, Out = TypedActions>, L: Ledger> Context<'_, 
         joined
     }
 
-    /// Puts the batch, and hands over what goes out; whether each message in it will have a reply, or may have one. Then
-    /// who waited is admitted.
+    /// Puts the batch, and hands over what goes out; whether each message in it will have a reply, or may have one.
+    /// Then who waited is admitted.
     pub fn put_batch<R: Wait + Clock>(&self, rt: &R, worker: &mut Worker<M, L>) -> bool {
         let answers = self.pass(rt, worker);
         self.admit_waiting(rt, worker);

@@ -72,7 +72,7 @@ const ADDRESS_BYTES: usize = 128;
 
 // The datagram that a socket at an IPv4 address has already: how many bytes it has, which stand at the front of the
 // buffer, and who sent it, whose port and address stand behind the family (ip(7)). None where there is none, and at a
-// fault, which the next wait tells.
+// fault: one that lasts is told by the next wait.
 fn datagram_at_hand(socket: &UdpSocket, buffer: &mut [u8]) -> Option<(usize, Endpoint)>
     ensures { IfSome result (λ d. d.0 ≤ length buffer.new) }
 {

@@ -1,5 +1,5 @@
-//! Clients' messages on their way through the machine: each is read before the lock is taken, its step is taken while it
-//! is held, and what that gives is written behind it.
+//! Clients' messages on their way through the machine: each is read before the lock is taken, its step is taken while
+//! it is held, and what that gives is written behind it.
 ghost use Rattle.std.specs.Prelude.{◌≡◌, Some, IfOk, IfSome, OnOk, IfErr};
 ghost use Rattle.std.specs.Bool.{OnTrue};
 ghost use Rattle.runs.specs.States.{Client};
