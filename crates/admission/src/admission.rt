@@ -1,5 +1,5 @@
 //! Admission of queries: which are admitted, which wait, and which are called in.
-ghost use Rattle.std.specs.Prelude.{◌≡◌, ◌+◌, ◌<◌, ◌≤◌, false, [], ◌∷◌, ◌++◌, length, slice_index_or, None, IfOk};
+ghost use Rattle.std.specs.Prelude.{◌≡◌, ◌+◌, ◌<◌, nat_le, ◌≤◌, false, [], ◌∷◌, ◌++◌, length, slice_index_or, None, IfOk};
 ghost use Rattle.std.specs.Option.{is_some};
 ghost use Rattle.std.specs.List.{count_by, remove};
 ghost use Rattle.std.specs.VecDeque.{deque_capacity};
@@ -82,6 +82,13 @@ impl<T: Drop, A: Allocator> Admission<T, A> {
         };
         self.waiting.push_back(query).unwrap();
         Decision::Waits
+    }
+
+    /// Whether a query with this key would wait: as many equal ones are inside as may be.
+    pub fn is_crowded(&self, key: u64) -> bool
+        ensures { result ≡ nat_le self.now.limits.equal (of_key key self.now) }
+    {
+        self.limits.equal <= self.of_key(key)
     }
 
     /// The step of a query has asked other servers: the query is open from that moment on. Nothing changes where no

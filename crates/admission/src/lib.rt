@@ -41,5 +41,5 @@ mod queries;
 
 pub use admission::Admission;
 pub use laws::{fair_law, kept_law, once_law};
-pub use limits::{Limits, OPEN_MS, WAIT_MS};
+pub use limits::{EQUAL, Limits, OPEN_MS, PLACES, RESERVE, WAIT_MS, WAITING};
 pub use queries::{Decision, Held};

@@ -7,6 +7,18 @@ pub const OPEN_MS: u64 = 12_000;
 /// After so many milliseconds a query that waits is dropped.
 pub const WAIT_MS: u64 = 5_000;
 
+/// Equal queries that are inside at a time, as `of_address` says.
+pub const EQUAL: usize = 4;
+
+/// Queries that are inside at a time.
+pub const PLACES: usize = 1_024;
+
+/// The last of the places, which go to addresses that have no query inside or waiting.
+pub const RESERVE: usize = 64;
+
+/// Queries that wait at a time.
+pub const WAITING: usize = 4_096;
+
 /// How many queries may be inside, and how many may wait.
 #[derive(Clone, Copy, Debug, PartialEq, Eq)]
 pub struct Limits {
@@ -28,11 +40,11 @@ impl Limits {
         ensures { result ≡ record { equal = 4; each = each; places = 1024; reserve = 64; waiting = 4096 } }
     {
         Limits {
-            equal: 4,
+            equal: EQUAL,
             each,
-            places: 1_024,
-            reserve: 64,
-            waiting: 4_096,
+            places: PLACES,
+            reserve: RESERVE,
+            waiting: WAITING,
         }
     }
 }

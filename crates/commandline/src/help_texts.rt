@@ -81,9 +81,11 @@ The file of a server has lines of these words; blank lines and lines that begin 
   sockets N                  of how many socket numbers each ask draws one, up to 16; 16
   workers N                  how many times sixteen asks over TCP are under way, up to 16; 4
   streams N                  how many streams of clients are open at once, up to 256; 1
-  clients N                  how many questions of one address may be under way in datagrams, up to 1024; 256
+  clients N                  how many questions of one address may be under way, up to 1024; 256
   loops N                    how many threads take clients' datagrams, up to 16; 1
   seed HEX                   what identifiers are drawn from, 64 digits; random
+  metrics ADDRESS PORT       where counters are served over HTTP; nowhere
+  log LEVEL                  warn: what goes wrong goes to standard error; info: the start too; nothing
 ";
 
 // What `trace` prints.
@@ -158,7 +160,7 @@ const LINE_FAULT: &str =
 ";
 
 // A file that is not read.
-const UNREADABLE: &str = "  error: FILE: unreadable    the file is missing or is not UTF-8
+const UNREADABLE: &str = "  error: FILE: unreadable    the file is missing, is a folder, may not be read, or is not UTF-8
 ";
 
 // A word that is no name.

@@ -427,7 +427,7 @@ fn unread_words<A: Heap, H: Host>(
         "listen",
         listen,
         "",
-        "it could not be bound, and can be now",
+        "it can be bound alone: listen and metrics may name one port, or another server has just ended",
     )
 }
 

@@ -1,7 +1,7 @@
 -- What the bytes of a client's query or its reply say, as far as equal questions are found by it (RFC 1035, section 4.1).
-use Rattle.std.specs.Prelude.{◌≡◌, ◌↔◌, ℕ, ◌+◌, ◌%◌, ◌<◌, ◌≤◌, false, Some, List, [], ◌∷◌, length, take, drop, slice_get}
+use Rattle.std.specs.Prelude.{◌≡◌, ◌↔◌, ℕ, ◌+◌, ◌%◌, ◌≤◌, Some, List, [], ◌∷◌, length, take, drop, slice_get}
 use Rattle.message_grammar.specs.Names.{FullAt}
-use Rattle.message_grammar.specs.Messages.{Header, IsHeader, high_flags, low_flags}
+use Rattle.message_grammar.specs.Messages.{Header, IsHeader, low_flags}
 
 -- One question is announced. Its name stands in full behind the header's 12 bytes, then its type and its class, which end
 -- there.
@@ -17,17 +17,10 @@ pub record HasQuestion (bytes : List ℕ) (end : ℕ) : Type 0 where
 abbrev pub EndsName : List ℕ → ℕ → Type 0
 EndsName bytes end = (name : List (List ℕ)) × FullAt bytes 12 name end
 
--- QR and the operation are the five high bits of the third byte.
-abbrev pub IsPlainQuery : List ℕ → Type 0
-IsPlainQuery bytes = (flags : ℕ) × (slice_get bytes 2 ≡ Some flags) × (flags < 8)
-
 -- The RCODE is the low half of the fourth byte, and SERVFAIL is 2.
 abbrev pub IsFailure : List ℕ → Type 0
 IsFailure bytes = (flags : ℕ) × (slice_get bytes 3 ≡ Some flags) × (flags % 16 ≡ 2)
 
--- So these are a header's fields.
-abbrev pub PlainIsQuery : Type 0
-PlainIsQuery = (h : Header) → IsHeader h → (high_flags h < 8) ↔ ((h.qr ≡ false) × (h.opcode ≡ 0))
-
+-- So this is a header's field.
 abbrev pub FailureIsServfail : Type 0
 FailureIsServfail = (h : Header) → IsHeader h → (low_flags h % 16 ≡ 2) ↔ (h.rcode ≡ 2)

@@ -1,15 +1,11 @@
-//! What comes at the ends, as events.
+//! What comes from servers, as events.
 ghost use Rattle.std.specs.Prelude.{◌≡◌, ◌≤◌, IfOk, IfSome, MatchOption, length};
-ghost use Rattle.wire.specs.declared.via.Via.TheVariants.{Udp, Tcp};
-ghost use Rattle.runs.specs.States.{Client, Datagram, TcpReply, TcpFailed};
+ghost use Rattle.runs.specs.States.{Datagram, TcpReply, TcpFailed};
 ghost use Rattle.events.specs.Paths.{endpoint_view};
 ghost use Rattle.events.specs.Views.{event_view};
-ghost use Rattle.dispatch.specs.Senders.{client_number};
 
-use crate::senders::client_of;
 use events::{Bytes, Endpoint, Event};
 use memory::{Heap, Starved};
-use wire::Via;
 
 // Bytes that came, on memory of their own.
 fn owned<A: Heap>(alloc: A, bytes: &[u8]) -> Result<Bytes<A>, Starved>
@@ -17,44 +13,6 @@ fn owned<A: Heap>(alloc: A, bytes: &[u8]) -> Result<Bytes<A>, Starved>
     ensures { IfOk result (λ b. b ≡ bytes.now) }
 {
     Ok(Bytes::new(Vec::from_slice(alloc, bytes)?))
-}
-
-/// A client's datagram.
-pub fn query_event<A: Heap>(
-    alloc: A,
-    moment: u64,
-    from: Endpoint,
-    bytes: &[u8],
-) -> Result<Event<A>, Starved>
-    requires { length bytes.now ≤ 65535 }
-    ensures { IfOk result (λ e. event_view e ≡ Client moment (client_number from) Udp bytes.now) }
-{
-    Ok(held_query_event(moment, client_of(from), owned(alloc, bytes)?))
-}
-
-/// A datagram of the client of this number.
-pub fn held_query_event<A: Heap>(moment: u64, client: u64, bytes: Bytes<A>) -> Event<A>
-    ensures { event_view result ≡ Client moment client Udp bytes }
-{
-    Event::Client {
-        moment,
-        client,
-        way: Via::Udp,
-        bytes,
-    }
-}
-
-/// A frame of a client's stream, under a number.
-pub fn stream_query_event<A: Heap>(moment: u64, client: u64, bytes: Vec<u8, A>) -> Event<A>
-    requires { length bytes.items ≤ 65535 }
-    ensures { event_view result ≡ Client moment client Tcp bytes.items }
-{
-    Event::Client {
-        moment,
-        client,
-        way: Via::Tcp,
-        bytes: Bytes::new(bytes),
-    }
 }
 
 /// A datagram for an ask under this socket number.

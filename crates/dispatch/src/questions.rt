@@ -1,6 +1,6 @@
 //! Questions of clients, by their bytes: which are equal, and the failure of one as the reply to another.
 ghost use Rattle.std.specs.Prelude.{◌≡◌, ◌↔◌, ◌++◌, ◌-◌, ℕ, ◌≤◌, IfOk, IfSome, IsTrue, MatchOption, length, take, drop};
-ghost use Rattle.dispatch.specs.Questions.{HasQuestion, EndsName, IsPlainQuery, IsFailure, PlainIsQuery, FailureIsServfail};
+ghost use Rattle.dispatch.specs.Questions.{HasQuestion, EndsName, IsFailure, FailureIsServfail};
 
 use events::Bytes;
 use memory::{Heap, Starved};
@@ -46,24 +46,16 @@ fn name_end(message: &[u8]) -> Option<usize>
     None
 }
 
-/// Whether it is a query of operation 0.
-pub fn is_plain_query(message: &[u8]) -> bool
-    ensures { IsTrue result ↔ IsPlainQuery message.now }
-{
-    message.get(2).is_some_and(|flags| *flags < 8)
-}
-
-/// Whether it is a reply that says SERVFAIL (RFC 1035, section 4.1.1).
+/// Whether the RCODE of a reply is SERVFAIL (RFC 1035, section 4.1.1): that it is a reply is the caller's to know.
 pub fn is_failure(message: &[u8]) -> bool
     ensures { IsTrue result ↔ IsFailure message.now }
 {
     message.get(3).is_some_and(|flags| *flags % 16 == 2)
 }
 
-/// What the two read is what a header's fields are.
+/// What it reads is what a header's field is.
 pub fn flags_law()
-    ensures query { PlainIsQuery }
-    ensures failure { FailureIsServfail }
+    ensures { FailureIsServfail }
 {}
 
 /// The failure of a query as the reply to an equal one, whose question ends there: under that one's ID, and with its

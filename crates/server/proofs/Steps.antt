@@ -1,14 +1,9 @@
 -- What is said of a result of which only a part is known.
-use Rattle.std.proofs.Common.{inl, Option, Some, None, MatchOption, IfSome, Result, Ok, Err, OnErr}
+use Rattle.std.proofs.Common.{inl, Result, Ok, Err, OnErr}
 use Rattle.book.specs.Books.{TicketView}
 use Rattle.pool.specs.Closings.{IsEventRefused}
 use Rattle.pool.specs.declared.fault.PoolError.{PoolError}
 use Rattle.pool.specs.declared.fault.PoolError.TheVariants.{Differs, Forgot, Memory, Stranger}
-
--- What holds of the value, where there is one, whatever holds where there is none.
-pub if_some : {T : Type 0} (N : Type 0) (o : Option T) (P : T → Type 0) → MatchOption o N P → IfSome o P
-if_some N None P h = tt
-if_some N (Some x) P h = h
 
 -- What holds in any case holds of a refusal.
 pub at_err : {T E P : Type 0} (r : Result T E) → P → OnErr r P

@@ -3,6 +3,7 @@ use Rattle.std.specs.Prelude.{◌≡◌, ℕ, Result, Option, Some, List, IfSome
 use Rattle.memory.specs.declared.Starved.{Starved}
 use Rattle.book.specs.Books.{TicketView}
 use Rattle.pool.specs.Closings.{EntersAndGives}
+use Rattle.wire.specs.declared.via.Via.{Via}
 use Rattle.runs.specs.States.{Event, Action, Client}
 use Rattle.typed.specs.Events.{Parsed, ReadAs}
 use Rattle.typed.specs.declared.action.TypedActions.{TypedActions}
@@ -19,6 +20,10 @@ pub record PassageView (O : Type 0) : Type 0 where
 -- The query comes at that moment.
 abbrev pub event_of : ℕ → Query → Event
 event_of moment query = Client moment query.asker.client query.asker.way query.bytes
+
+-- A client's message.
+abbrev pub IsClients : Event → Type 0
+IsClients e = (now client : ℕ) × (way : Via) × (bytes : List ℕ) × (e ≡ Client now client way bytes)
 
 -- The view of these four.
 abbrev pub passage_view : {O : Type 0} → ℕ → Option Query → Parsed → Option O → PassageView O

@@ -1,7 +1,7 @@
 //! Clients' messages put: those that came together step under one lock.
 ghost use Rattle.std.specs.Prelude.{◌≤◌, length};
 
-use crate::context::Context;
+use crate::context::{Common, Context};
 use crate::passage::{Passage, Standing};
 use crate::query::{Asker, Query};
 use crate::shared_admission::Question;
@@ -62,7 +62,7 @@ impl<M: Machine<Event = TypedEvent, Out = TypedActions>, L: Ledger> Context<'_, 
     }
 
     // What a client sent joins the batch; whether it could. A question that equals others which are under way will wait
-    // for admission, whether they came in datagrams or on streams.
+    // in admission, whether they came in datagrams or on streams, and however they write the name.
     fn take<R: Clock>(
         &self,
         rt: &R,
@@ -77,27 +77,27 @@ impl<M: Machine<Event = TypedEvent, Out = TypedActions>, L: Ledger> Context<'_, 
             bytes: Bytes::new(bytes),
         };
         self.common.count_query(&query);
-        let standing = match self.common.admission.question(&query) {
-            Some(question) => Standing::Asks(question),
-            None => Standing::Free,
-        };
         let moment = self.common.moment(rt);
-        self.join(worker, moment, query, standing, moment)
+        self.join(worker, moment, query, None, moment)
     }
 
-    // A query that came then is read, and joins the batch at this moment; whether it could.
+    // A message that came then is read, and joins the batch at this moment; whether it could. It asks for admission,
+    // unless that question was admitted before.
     fn join(
         &self,
         worker: &mut Worker<M, L>,
         moment: u64,
         query: Query,
-        standing: Standing,
+        admitted: Option<Question>,
         since: u64,
     ) -> bool {
+        let Common {
+            alloc, admission, ..
+        } = self.common;
         let came = self.common.arrival(&query, since);
-        let joined = match Passage::read(self.common.alloc, moment, query, standing, came) {
-            Ok(Some(passage)) => worker.batch.push(passage).is_ok(),
-            Ok(None) | Err(_) => false,
+        let joined = match Passage::read(*alloc, admission, moment, query, admitted, came) {
+            Ok(passage) => worker.batch.push(passage).is_ok(),
+            Err(_) => false,
         };
         if !joined {
             self.common.ends.count(Outcome::MemoryRefused);
@@ -144,7 +144,7 @@ impl<M: Machine<Event = TypedEvent, Out = TypedActions>, L: Ledger> Context<'_, 
         } = held;
         let question = Question { key, client };
         let moment = self.common.moment(rt);
-        if !self.join(worker, moment, payload, Standing::Admitted(question), since) {
+        if !self.join(worker, moment, payload, Some(question), since) {
             self.common.admission.settle(rt, question);
         }
     }
@@ -202,8 +202,8 @@ impl<M: Machine<Event = TypedEvent, Out = TypedActions>, L: Ledger> Context<'_, 
         }
     }
 
-    // Writes what a message's step gave, and hands it over; whether something goes out. No step was taken where one
-    // wants memory.
+    // Writes what a message's step gave, and hands it over; whether something goes out. Of a step that wants memory
+    // nothing is noted, whether it was taken or not.
     fn write_out<R: Wait + Clock>(
         &self,
         rt: &R,

@@ -27,7 +27,6 @@ pub(crate) fn pass_time<
     let common = context.common;
     let mut log = Log::of(common.ends);
     let mut told = 0;
-    common.ends.tell("READY=1");
     for _ in rt.forever() {
         if common.is_over() {
             return;

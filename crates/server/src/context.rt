@@ -1,5 +1,5 @@
 //! What the loops share: the machine, the sockets, admission, the channels between the loops, and the flag.
-ghost use Rattle.std.specs.Prelude.{◌≡◌, ◌≤◌, length, IfOk, IfSome, MatchOption, OnErr};
+ghost use Rattle.std.specs.Prelude.{◌≡◌, ◌≤◌, length, IfOk, MatchOption, OnErr};
 ghost use Rattle.events.specs.Views.{event_view};
 ghost use Rattle.pool.specs.Closings.{IsEventRefused};
 ghost use Rattle.pool.specs.declared.fault.PoolError.TheVariants.{Memory};
@@ -14,6 +14,7 @@ use crate::query::Query;
 use crate::shared_admission::SharedAdmission;
 use crate::tally::Arrival;
 use crate::worker::Worker;
+use admission::WAITING;
 use book::Machine;
 use counters::{Outcome, SocketFault};
 use crossbeam_channel::{Receiver, Sender};
@@ -31,9 +32,6 @@ use typed::{TypedActions, TypedEvent, read_event, write_actions};
 
 // More asks than one query makes: a query that comes to nothing but refused asks ends before.
 const MAX_REFUSED_HANDOVERS: u32 = 64;
-
-// How many questions get a failure in a row: as many as wait.
-const MOST_FAILED: u32 = 4_096;
 
 /// What came of an event.
 #[derive(Clone, Copy)]
@@ -105,6 +103,12 @@ impl Common<'_> {
     /// Whether the flag is up.
     pub fn is_over(&self) -> bool {
         self.stop.load(Ordering::SeqCst)
+    }
+
+    /// A loop can't begin for want of memory: all loops end, so that a service manager starts the server anew.
+    pub fn give_up(&self) {
+        self.ends.count(Outcome::MemoryRefused);
+        self.stop.store(true, Ordering::SeqCst);
     }
 
     /// Milliseconds since the server began.
@@ -181,7 +185,7 @@ impl Common<'_> {
 
     // Where a query failed, those held for the same question get that failure.
     fn fail_others<R: Wait + Clock>(&self, rt: &R, moment: u64, failed: &Action) {
-        for _ in 0..MOST_FAILED {
+        for _ in 0..WAITING {
             if !self.fail_next(rt, moment, failed) {
                 return;
             }
@@ -191,12 +195,16 @@ impl Common<'_> {
     // Counts and sends that failure for the next of them; whether there is one.
     fn fail_next<R: Wait + Clock>(&self, rt: &R, moment: u64, failed: &Action) -> bool {
         match self.admission.next_failed(rt, failed) {
-            Some((since, reply)) => {
+            Some((since, Some(reply))) => {
                 if let Some(tally) = &self.ends.tally {
                     tally.count_copy(&reply, since, self.moment(rt));
                 }
                 self.send_out(rt, moment, &reply);
                 drop(reply);
+                true
+            }
+            Some((_, None)) => {
+                self.ends.count(Outcome::MemoryRefused);
                 true
             }
             None => false,
@@ -208,7 +216,7 @@ impl Common<'_> {
         let mut outbox = Outbox {
             rt,
             ends: self.ends,
-            bounds: self.bounds,
+            reach: self.bounds.reach,
             to_streams: self.to_streams,
             to_servers: self.to_servers,
             moment,
@@ -251,31 +259,22 @@ impl<M: Machine<Event = TypedEvent, Out = TypedActions>, L: Ledger> Context<'_, 
     // The same, where an ask that can't be made is no event yet.
     fn step_once<R: Wait + Clock>(&self, rt: &R, worker: &mut Worker<M, L>, event: Event) -> Step {
         let moment = event.moment();
-        match self.take_step(rt, worker, event) {
-            Some(actions) => {
+        match self.read_and_step(rt, worker, event) {
+            Ok(Some(actions)) => {
                 let step = self.common.hand_out(rt, moment, &actions);
                 drop(actions);
                 step
             }
-            None => NO_STEP,
-        }
-    }
-
-    // Reads an event, takes the machine's step, and writes what it gives: the machine is locked for the step alone.
-    // None out of memory, which is counted, and for a datagram that replies to no question.
-    fn take_step<R: Wait>(&self, rt: &R, worker: &mut Worker<M, L>, event: Event) -> Option<Actions>
-        ensures { IfSome result (λ actions. IsPut M.moves M.begins worker.old.ticket (event_view event) actions worker.new.ticket) }
-    {
-        match self.read_and_step(rt, worker, event) {
-            Ok(actions) => actions,
+            Ok(None) => NO_STEP,
             Err(_) => {
                 self.common.ends.count(Outcome::MemoryRefused);
-                None
+                NO_STEP
             }
         }
     }
 
-    // The same, refused out of memory. None for a datagram that replies to no question.
+    // Reads an event, takes the machine's step, and writes what it gives: the machine is locked for the step alone.
+    // Refused out of memory. None for a datagram that replies to no question.
     fn read_and_step<R: Wait>(
         &self,
         rt: &R,

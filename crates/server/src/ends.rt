@@ -1,7 +1,7 @@
 //! The sockets of a server.
 ghost use Rattle.std.specs.Prelude.{◌≡◌, ◌↔◌, IsTrue, MatchOption};
 ghost use Rattle.server.specs.Addresses.{IsAt, IsBoundTo, IsElsewhere};
-ghost use Rattle.server.specs.Waits.{IsShort};
+ghost use Rattle.server.specs.Waits.{IsSlice};
 
 use crate::log::Shown;
 use crate::metrics::Scrapes;
@@ -36,7 +36,7 @@ pub(crate) const LISTENER: usize = 1_000_000;
 
 /// How long a loop waits at most.
 pub(crate) fn slice() -> Duration
-    ensures { IsShort result }
+    ensures { IsSlice result }
 {
     Duration::from_millis(SLICE_MS)
 }
@@ -224,11 +224,6 @@ impl Ends {
     /// Where clients are served.
     pub fn listen(&self) -> io::Result<Endpoint> {
         endpoint_of(self.clients.local_addr()?).ok_or(io::Error::from(ErrorKind::Unsupported))
-    }
-
-    /// How many datagrams came from servers that were asked and repeat no ask: many of them are the work of a forger.
-    pub fn strange_datagrams(&self) -> u64 {
-        self.asks.strange_datagrams()
     }
 }
 

@@ -41,6 +41,8 @@ fn fault_of(error: &io::Error) -> StreamFault {
 pub(crate) struct FramedStream {
     stream: TcpStream,
     got: Vec<u8>,
+    // How much of `got` was taken out, frame by frame: it goes before more is read.
+    taken: usize,
     out: Vec<u8>,
     // How much of `out` was written.
     written: usize,
@@ -58,6 +60,7 @@ impl Drop for FramedStream {
         let FramedStream {
             stream,
             got,
+            taken: _,
             out,
             written: _,
             readable: _,
@@ -78,6 +81,7 @@ impl FramedStream {
         FramedStream {
             stream,
             got: Vec::new(alloc),
+            taken: 0,
             out: Vec::new(alloc),
             written: 0,
             readable: true,
@@ -143,36 +147,55 @@ impl FramedStream {
             }
         }
         if self.written >= self.out.len() {
-            self.out.clear();
-            self.written = 0;
+            self.clear_out();
         }
         took
+    }
+
+    // All that was put has been written: its room is kept, unless it is more than one frame has.
+    fn clear_out(&mut self) {
+        if self.out.capacity() > MOST_FRAME_BYTES {
+            self.out = Vec::new(*self.out.allocator());
+        } else {
+            self.out.clear();
+        }
+        self.written = 0;
     }
 
     /// The next frame, of what came before or comes now. None where all of it is not there.
     pub fn next(&mut self, alloc: Global, buffer: &mut [u8]) -> Option<Vec<u8>>
         ensures { IfSome result (λ v. length v.items < 2 ^ 16) }
     {
-        for _ in 0..3 {
-            if framed(&self.got).is_some() {
-                return self.take_frame(alloc);
-            }
-            if !self.read(buffer) {
-                return None;
-            }
+        if framed(self.rest()).is_none() && !self.read(buffer) {
+            return None;
         }
-        None
+        self.take_frame(alloc)
+    }
+
+    // What came and was not taken out yet.
+    fn rest(&self) -> &[u8] {
+        self.got.get(self.taken..).unwrap_or(&[])
     }
 
     // The frame that stands in front, which is taken out.
     fn take_frame(&mut self, alloc: Global) -> Option<Vec<u8>>
         ensures { IfSome result (λ v. length v.items < 2 ^ 16) }
     {
-        let frame = framed(&self.got)?;
+        let frame = framed(self.rest())?;
         let count = frame.len() + 2;
         let frame: Result<_, _> = Vec::from_slice(alloc, frame);
-        self.got.drain(..count);
+        self.taken = self.taken.saturating_add(count);
         self.kept(frame)
+    }
+
+    // Frees the room of the frames that were taken out.
+    fn make_room(&mut self) {
+        if self.taken >= self.got.len() {
+            self.got.clear();
+        } else {
+            self.got.drain(..self.taken);
+        }
+        self.taken = 0;
     }
 
     // A frame, where there was memory for it; else the stream has failed.
@@ -189,6 +212,7 @@ impl FramedStream {
     /// Reads what has come, as much as it holds; whether a byte came.
     pub fn read(&mut self, buffer: &mut [u8]) -> bool {
         let mut came = false;
+        self.make_room();
         for _ in 0..u64::MAX {
             if !self.readable || self.ended || self.fault.is_some() {
                 break;

@@ -3,10 +3,11 @@
 //!
 //! `Ends::open` binds the sockets for clients, UDP and TCP at one address and port. `serve_until` runs a loop a ticket,
 //! by the roles of `dispatch`: clients' datagrams (`loops` of them, at one socket), clients' streams, the clock, other
-//! servers' datagrams, asks over TCP. Each loop reaches the machine by `pool::take_step` and `pool::step_locked` alone:
-//! clients' datagrams that came together step under one lock. Each ask in a datagram has a socket of its own, at a port
-//! that the system picks, and only what repeats the ask is put as an event (RFC 5452, section 9.2). One loop holds all
-//! streams of clients, and one all streams to servers, and neither waits for any of them.
+//! servers' datagrams, asks over TCP. Each loop steps the machine by `pool::take_step` and `pool::step_locked` alone,
+//! and the counters read its sizes (`pool::sizes`). Clients' datagrams that came together step under one lock. Each ask
+//! in a datagram has a socket of its own, at a port that the system picks, and only what repeats the ask is put as an
+//! event (RFC 5452, section 9.2). One loop holds all streams of clients, and one all streams to servers, and neither
+//! waits for any of them.
 //!
 //! Where its file asks for it (`Ends::showing`) it counts, by the crate `counters`, and serves what it counts
 //! over HTTP, in a loop of its own.

@@ -132,7 +132,7 @@ impl Log {
         let Some(tally) = &common.ends.tally else {
             return;
         };
-        self.most_open = self.most_open.max(tally.open_queries(rt));
+        self.most_open = self.most_open.max(tally.open_queries(rt, now));
         if now.saturating_sub(self.looked) < MINUTE_MS {
             return;
         }

@@ -68,6 +68,7 @@ pub(crate) fn serve_counters<
         return;
     };
     let Ok(mut events) = Events::with_capacity(context.common.alloc, EVENTS) else {
+        context.common.give_up();
         return;
     };
     let mut poll = scrapes.poller.poll.lock(rt);
@@ -150,14 +151,14 @@ fn respond<R: Wait + Clock>(
 }
 
 // The response to a request. None where no memory is left for it.
-fn response_to<R: Wait>(
+fn response_to<R: Wait + Clock>(
     rt: &R,
     common: &Common<'_>,
     request: &[u8],
     stores: StoreSizes,
 ) -> Option<String> {
     let tally = common.ends.tally.as_ref()?;
-    let (cells, waiting) = tally.values(rt);
+    let (cells, waiting) = tally.values(rt, common.moment(rt));
     let mut response = String::new(common.alloc);
     put_response(
         common.alloc,

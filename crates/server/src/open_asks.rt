@@ -1,9 +1,12 @@
 //! The asks in datagrams that are open, each with a socket of its own at a port that the system picks.
-ghost use Rattle.std.specs.Prelude.{◌≤◌, IfSome, length};
+ghost use Rattle.std.specs.Prelude.{◌≡◌, ◌≤◌, IfSome, length, take};
+ghost use Rattle.counters.specs.declared.outcome.Outcome.TheVariants.{AskFailed};
+ghost use Rattle.counters.specs.declared.labels.Way.TheVariants as way;
+ghost use Rattle.dispatch.specs.Repeats.{Repeats};
 
 use crate::ends::{address_of, is_early};
 use crate::poller::Poller;
-use counters::AskFault;
+use counters::{AskFault, Outcome, Way};
 use dispatch::repeats;
 use events::{Bytes, Endpoint};
 use libc::net as c;
@@ -13,16 +16,17 @@ use os::FromRawFd;
 use slab::Slab;
 use std::alloc::Global;
 use std::io;
+use std::io::ErrorKind;
 use std::net::{Net, UdpSocket};
 use std::os::fd::{AsRawFd, OwnedFd, RawFd};
 use std::sync::atomic::{AtomicU64, Ordering};
 use std::sync::{Mutex, Wait};
 
 // How long a socket is open at most, in milliseconds: longer than any reply in a datagram is waited for.
-const OPEN_MS: u64 = 2_100;
+const SOCKET_MS: u64 = 2_100;
 
 // How many asks are open at most.
-const MOST_OPEN: u64 = 1_500;
+const MOST_ASKS: u64 = 1_500;
 
 // How many descriptors are left for everything else, where the process may have so many.
 const DESCRIPTORS_FOR_OTHERS: u64 = 400;
@@ -53,7 +57,7 @@ pub(crate) struct OpenAsks {
     strange: AtomicU64,
     // How many were closed for want of room.
     crowded: AtomicU64,
-    // How often a datagram could not be received, or its socket not be waited for again.
+    // How often a datagram could not be received or read, or its socket not be waited for again.
     unread: AtomicU64,
 }
 
@@ -97,7 +101,8 @@ impl OpenAsks {
     }
 
     /// Asks a server from a socket of its own. Where too many are open the oldest is closed, so that its reply is lost.
-    /// What can't be sent is lost too, and told; no ask ever leaves from a port that another one had.
+    /// What can't be sent is lost too, and it is told how that counts; no ask ever leaves from a port that another one
+    /// had.
     pub fn send<R: Wait>(
         &self,
         rt: &R,
@@ -105,27 +110,25 @@ impl OpenAsks {
         number: u16,
         to: Endpoint,
         bytes: &Bytes,
-    ) -> Result<(), AskFault> {
+    ) -> Result<(), Outcome> {
         let Some(socket) = self.socket(rt) else {
-            return Err(AskFault::Descriptors);
+            return Err(lost_by(AskFault::Descriptors));
         };
         let Ok(bytes) = bytes.copied() else {
-            return Err(AskFault::Refused);
+            return Err(Outcome::MemoryRefused);
         };
         let sent = socket.connect(address_of(to)).is_ok() && socket.send(bytes.as_slice()).is_ok();
-        if sent {
-            let ask = OpenAsk {
-                socket,
-                number,
-                to,
-                moment,
-                bytes,
-            };
-            if self.put(rt, ask, false) {
-                return Ok(());
-            }
+        if !sent {
+            return Err(lost_by(AskFault::Refused));
         }
-        Err(AskFault::Refused)
+        let ask = OpenAsk {
+            socket,
+            number,
+            to,
+            moment,
+            bytes,
+        };
+        self.put(rt, ask, false)
     }
 
     // A socket, if need be the descriptor of the oldest ask.
@@ -137,21 +140,22 @@ impl OpenAsks {
         datagram_socket()
     }
 
-    // Waits for the replies to an ask from now on, or, where it was taken out, again; whether it can. One that can't
-    // be waited for is lost.
-    fn put<R: Wait>(&self, rt: &R, ask: OpenAsk, again: bool) -> bool {
+    // Waits for the replies to an ask from now on, or, where it was taken out, again. One that can't be waited for is
+    // lost, and it is told how that counts.
+    fn put<R: Wait>(&self, rt: &R, ask: OpenAsk, again: bool) -> Result<(), Outcome> {
         self.put_in(&mut self.open.lock(rt), ask, again)
     }
 
     // The same, among the open ones.
-    fn put_in(&self, open: &mut Slab<OpenAsk>, ask: OpenAsk, again: bool) -> bool {
+    fn put_in(&self, open: &mut Slab<OpenAsk>, ask: OpenAsk, again: bool) -> Result<(), Outcome> {
         if open.len() >= self.most {
             self.close_oldest(open);
         }
         let socket = ask.socket.as_raw_fd();
         match open.insert(ask) {
-            Ok(key) => self.watch(open, key, socket, again),
-            Err(_) => false,
+            Ok(key) if self.watch(open, key, socket, again) => Ok(()),
+            Ok(_) => Err(lost_by(AskFault::Refused)),
+            Err(_) => Err(Outcome::MemoryRefused),
         }
     }
 
@@ -171,13 +175,14 @@ impl OpenAsks {
     /// The ask of this key, where what repeats it has come: how many bytes that has, at the front of the buffer. Its
     /// socket is closed with it. What repeats it not is counted, and the ask stays open.
     pub fn take<R: Wait>(&self, rt: &R, key: usize, buffer: &mut [u8]) -> Option<(usize, OpenAsk)>
-        ensures { IfSome result (λ d. d.0 ≤ length buffer.new) }
+        ensures within { IfSome result (λ d. d.0 ≤ length buffer.new) }
+        ensures repeats { IfSome result (λ d. Repeats d.1.bytes (take d.0 buffer.new)) }
     {
         let ask = self.open.lock(rt).try_remove(key)?;
         match self.reply_to(&ask, buffer) {
             Some(count) => Some((count, ask)),
             None => {
-                if !self.put(rt, ask, true) {
+                if self.put(rt, ask, true).is_err() {
                     self.unread.fetch_add(1, Ordering::SeqCst);
                 }
                 None
@@ -188,7 +193,8 @@ impl OpenAsks {
     // How many bytes the datagram has that repeats an ask, where one has come. One that can't be read for want of
     // memory is lost. That nobody listens at the server's port is no reply, since anyone can say so.
     fn reply_to(&self, ask: &OpenAsk, buffer: &mut [u8]) -> Option<usize>
-        ensures { IfSome result (λ n. n ≤ length buffer.new) }
+        ensures within { IfSome result (λ n. n ≤ length buffer.new) }
+        ensures repeats { IfSome result (λ n. Repeats ask.now.bytes (take n buffer.new)) }
     {
         for _ in 0..DATAGRAMS_IN_A_ROW {
             match ask.socket.recv(buffer) {
@@ -197,9 +203,12 @@ impl OpenAsks {
                     Ok(false) => {
                         self.strange.fetch_add(1, Ordering::SeqCst);
                     }
-                    Err(_) => {}
+                    Err(_) => {
+                        self.unread.fetch_add(1, Ordering::SeqCst);
+                    }
                 },
                 Err(error) if is_early(&error) => return None,
+                Err(error) if is_unreachable(&error) => {}
                 Err(_) => {
                     self.unread.fetch_add(1, Ordering::SeqCst);
                 }
@@ -212,7 +221,7 @@ impl OpenAsks {
     pub fn close_old<R: Wait>(&self, rt: &R, now: u64) -> u64 {
         let mut open = self.open.lock(rt);
         let before = open.len();
-        open.retain(|_, ask| now.saturating_sub(ask.moment) < OPEN_MS);
+        open.retain(|_, ask| now.saturating_sub(ask.moment) < SOCKET_MS);
         before.saturating_sub(open.len()) as u64
     }
 
@@ -225,7 +234,7 @@ impl OpenAsks {
         }
     }
 
-    /// How often a datagram of a server could not be received.
+    /// How often a datagram of a server could not be received or read.
     pub fn unread_datagrams(&self) -> u64 {
         self.unread.load(Ordering::SeqCst)
     }
@@ -234,6 +243,21 @@ impl OpenAsks {
     pub fn crowded_asks(&self) -> u64 {
         self.crowded.load(Ordering::SeqCst)
     }
+}
+
+// How an ask counts that is lost so.
+fn lost_by(fault: AskFault) -> Outcome
+    ensures { result ≡ AskFailed way.Udp fault }
+{
+    Outcome::AskFailed(Way::Udp, fault)
+}
+
+// Whether an error is what an ICMP message said of the server, and no fault of the socket (udp(7)).
+fn is_unreachable(error: &io::Error) -> bool {
+    matches!(
+        error.kind(),
+        ErrorKind::ConnectionRefused | ErrorKind::HostUnreachable | ErrorKind::NetworkUnreachable
+    )
 }
 
 // A socket for datagrams, not bound, which does not block. None where there is no descriptor.
@@ -250,18 +274,11 @@ fn datagram_socket() -> Option<UdpSocket> {
 fn oldest(open: &Slab<OpenAsk>) -> Option<usize> {
     let mut oldest: Option<(usize, u64)> = None;
     for (key, ask) in open.iter() {
-        let older = match oldest {
-            Some((_, moment)) => ask.moment < moment,
-            None => true,
-        };
-        if older {
+        if oldest.is_none_or(|(_, moment)| ask.moment < moment) {
             oldest = Some((key, ask.moment));
         }
     }
-    match oldest {
-        Some((key, _)) => Some(key),
-        None => None,
-    }
+    oldest.map(|(key, _)| key)
 }
 
 // How many asks may be open: as many as leave descriptors for everything else, or half of a few.
@@ -271,11 +288,11 @@ fn most_open() -> usize {
         rlim_max: 0,
     };
     if libc::getrlimit(libc::RLIMIT_NOFILE, &mut limit) != 0 {
-        return MOST_OPEN as usize;
+        return MOST_ASKS as usize;
     }
     let descriptors = limit.rlim_cur;
     let most = descriptors
         .saturating_sub(DESCRIPTORS_FOR_OTHERS)
         .max(descriptors / 2);
-    most.min(MOST_OPEN) as usize
+    most.min(MOST_ASKS) as usize
 }

@@ -1,9 +1,8 @@
 //! What goes out, by the sockets and the channels of a server.
-use crate::context::Bounds;
 use crate::ends::{Ends, address_of};
 use counters::{AskFault, Outcome, SocketFault, Way};
 use crossbeam_channel::Sender;
-use dispatch::Carrier;
+use dispatch::{Carrier, Reach};
 use events::{Bytes, Endpoint};
 use std::alloc::Global;
 use std::sync::Wait;
@@ -31,7 +30,8 @@ pub(crate) struct StreamReply {
 pub(crate) struct Outbox<'a, R> {
     pub rt: &'a R,
     pub ends: &'a Ends,
-    pub bounds: Bounds,
+    /// At which addresses servers are asked.
+    pub reach: Reach,
     pub to_streams: &'a Sender<StreamReply>,
     pub to_servers: &'a Sender<StreamAsk>,
     pub moment: u64,
@@ -60,15 +60,15 @@ impl<R: Wait + Clock> Carrier<Global> for Outbox<'_, R> {
 
     fn to_server(&mut self, socket: u16, to: Endpoint, bytes: &Bytes) {
         let ends = self.ends;
-        if !self.bounds.reach.has(to.address) {
+        if !self.reach.has(to.address) {
             ends.count(Outcome::AskFailed(Way::Udp, AskFault::Barred));
-        } else if let Err(fault) = ends.asks.send(self.rt, self.moment, socket, to, bytes) {
-            ends.count(Outcome::AskFailed(Way::Udp, fault));
+        } else if let Err(lost) = ends.asks.send(self.rt, self.moment, socket, to, bytes) {
+            ends.count(lost);
         }
     }
 
     fn to_worker(&mut self, number: u64, to: Endpoint, bytes: &Bytes) -> bool {
-        if !self.bounds.reach.has(to.address) {
+        if !self.reach.has(to.address) {
             self.ends
                 .count(Outcome::AskFailed(Way::Tcp, AskFault::Barred));
             return false;
@@ -90,6 +90,9 @@ impl<R: Wait + Clock> Outbox<'_, R> {
     // Hands an ask on to the loop that makes them; whether it could.
     fn hand_on(&self, ask: StreamAsk) -> bool {
         let sent = self.to_servers.send(self.rt, ask).is_ok();
+        if !sent {
+            self.ends.count(Outcome::MemoryRefused);
+        }
         self.ends.servers.notify();
         sent
     }

@@ -1,15 +1,15 @@
 //! Clients' messages on their way through the machine: each is read before the lock is taken, its step is taken while
 //! it is held, and what that gives is written behind it.
-ghost use Rattle.std.specs.Prelude.{◌≡◌, Some, IfOk, IfSome, OnOk, IfErr};
+ghost use Rattle.std.specs.Prelude.{◌≡◌, Some, None, IfOk, IfSome, IfNone, OnOk, IfErr};
 ghost use Rattle.std.specs.Bool.{OnTrue};
-ghost use Rattle.runs.specs.States.{Client};
+ghost use Rattle.runs.specs.States.{Client, told_moment};
 ghost use Rattle.events.specs.Views.{event_view};
 ghost use Rattle.typed.specs.Events.{ReadAs};
 ghost use Rattle.pool.specs.Closings.{IsEventRefused};
-ghost use Rattle.server.specs.Passages.{IsAnswered, TakesStep};
+ghost use Rattle.server.specs.Passages.{IsAnswered, IsClients, TakesStep};
 
 use crate::query::{Asker, Query};
-use crate::shared_admission::{Entry, Question, ask_for};
+use crate::shared_admission::{Entry, Question, SharedAdmission, ask_for};
 use crate::tally::Arrival;
 use admission::Admission;
 use book::{Book, Machine, Ticket};
@@ -22,10 +22,13 @@ use std::sync::ledger::Ledger;
 use typed::{TypedAction, TypedActions, TypedEvent, read_event, write_actions};
 use wire::Writer;
 
+// Bytes of a message that waits in admission at most: as many as a datagram may have (RFC 1035, section 2.3.4).
+const MOST_HELD_BYTES: usize = 512;
+
 /// How a message stands in admission.
 #[derive(Clone, Copy)]
 pub(crate) enum Standing {
-    /// It needs none: it asks no plain question.
+    /// It needs none: it is no query.
     Free,
     /// It is still to ask for it.
     Asks(Question),
@@ -65,23 +68,29 @@ impl<M: Machine<Event = TypedEvent, Out = TypedActions>> Model for Passage<M> {
 }
 
 impl<M: Machine<Event = TypedEvent, Out = TypedActions>> Passage<M> {
-    /// A client's query, read: it comes at this moment. None for what is no client's.
+    /// A client's message, read: it comes at this moment. It asks for admission where it is a query, unless that
+    /// question was admitted before.
     pub fn read(
         alloc: Global,
+        admission: &SharedAdmission,
         moment: u64,
         query: Query,
-        standing: Standing,
+        admitted: Option<Question>,
         came: Option<Arrival>,
-    ) -> Result<Option<Passage<M>>, Starved>
-        ensures { IfOk result (λ o. IfSome o (λ p. p.event ≡ Some (Client moment query.asker.client query.asker.way query.bytes))) }
+    ) -> Result<Passage<M>, Starved>
+        ensures { IfOk result (λ p. p.event ≡ Some (Client moment query.asker.client query.asker.way query.bytes)) }
     {
         let event = query.into_event(moment);
         match read_event(alloc, &event) {
-            Ok(Some(parsed)) => Ok(Passage::of(event, parsed, standing, came)),
-            Ok(None) => {
-                drop(event);
-                Ok(None)
+            Ok(Some(parsed)) => {
+                let standing = match admitted {
+                    Some(question) => Standing::Admitted(question),
+                    None => admission.standing_of(parsed.parsed()),
+                };
+                Ok(Passage::of(event, parsed, standing, came))
             }
+            // Only of what is no client's nothing is read.
+            Ok(None) => unreachable!(),
             Err(starved) => {
                 drop(event);
                 Err(starved)
@@ -89,15 +98,16 @@ impl<M: Machine<Event = TypedEvent, Out = TypedActions>> Passage<M> {
         }
     }
 
-    // The query of a client that is this event, of which that was read. None for what is no client's.
+    // The query of a client that is this event, of which that was read.
     fn of(
         event: Event,
         parsed: TypedEvent,
         standing: Standing,
         came: Option<Arrival>,
-    ) -> Option<Passage<M>>
-        requires { ReadAs (event_view event) parsed }
-        ensures { IfSome result (λ p. p.event ≡ Some (event_view event)) }
+    ) -> Passage<M>
+        requires read { ReadAs (event_view event) parsed }
+        requires client { IsClients (event_view event) }
+        ensures { result.event ≡ Some (event_view event) }
     {
         match event {
             Event::Client {
@@ -105,7 +115,7 @@ impl<M: Machine<Event = TypedEvent, Out = TypedActions>> Passage<M> {
                 client,
                 way,
                 bytes,
-            } => Some(Passage {
+            } => Passage {
                 standing,
                 came,
                 moment,
@@ -116,21 +126,20 @@ impl<M: Machine<Event = TypedEvent, Out = TypedActions>> Passage<M> {
                 parsed,
                 given: None,
                 machine: PhantomData,
-            }),
-            other => {
-                drop(other);
-                drop(parsed);
-                None
-            }
+            },
+            _ => unreachable!(),
         }
     }
 
     /// When it came, or was called in, in milliseconds.
-    pub fn moment(&self) -> u64 {
+    pub fn moment(&self) -> u64
+        ensures { IfSome self.now.event (λ e. result ≡ told_moment e) }
+    {
         self.moment
     }
 
-    /// Asks for admission, where that is still to be done; whether its step is to be taken now.
+    /// Asks for admission, where that is still to be done; whether its step is to be taken now. A long message does not
+    /// wait there, since it would be held whole.
     pub fn enter(&mut self, admission: &mut Admission<Query>) -> bool
         ensures { OnTrue result (self.new ≡ self.old) }
     {
@@ -140,6 +149,11 @@ impl<M: Machine<Event = TypedEvent, Out = TypedActions>> Passage<M> {
         let Some(query) = self.query.take() else {
             return false;
         };
+        if query.bytes.as_slice().len() > MOST_HELD_BYTES && admission.is_crowded(question.key) {
+            self.query = Some(query);
+            self.standing = Standing::Dropped;
+            return false;
+        }
         match ask_for(admission, question, self.moment, query) {
             Entry::In(query) => {
                 self.query = Some(query);
@@ -190,9 +204,10 @@ impl<M: Machine<Event = TypedEvent, Out = TypedActions>> Passage<M> {
         }
     }
 
-    /// What its step gave, written. None where no step was taken.
+    /// What its step gave, written. None where no step was taken, or it wanted memory.
     pub fn write(&self, alloc: Global, writer: &mut Writer) -> Result<Option<Actions>, Starved>
-        ensures { IfOk result (λ o. IfSome o (IsAnswered M.moves M.begins self.now.event)) }
+        ensures some { IfOk result (λ o. IfSome o (IsAnswered M.moves M.begins self.now.event)) }
+        ensures none { IfOk result (λ o. IfNone o (self.now.given ≡ None)) }
     {
         match &self.given {
             Some(given) => Ok(Some(write_actions(alloc, writer, given)?)),

@@ -37,7 +37,7 @@ enum Room {
     Free,
     // All places are taken, and none of their streams has to give way.
     Taken,
-    // Its address has as many as it may.
+    // Its address has as many as it may, and another's stream could have a place.
     TooMany,
 }
 
@@ -137,7 +137,7 @@ impl Places {
                 self.open.try_remove(key);
                 Room::Free
             }
-            None if is_full => Room::Taken,
+            None if is_full && self.most_silent(None, now).is_none() => Room::Taken,
             None => Room::TooMany,
         }
     }
@@ -147,22 +147,13 @@ impl Places {
         let mut found: Option<(usize, u64)> = None;
         for (key, client) in self.open.iter() {
             let silence = client.silence(now);
-            let counts = match whose {
-                Some(address) => client.address == address,
-                None => true,
-            };
-            let longest = match found {
-                Some((_, other)) => silence > other,
-                None => true,
-            };
+            let counts = whose.is_none_or(|address| client.address == address);
+            let longest = found.is_none_or(|(_, other)| silence > other);
             if counts && longest && client.yields(now, self.most) {
                 found = Some((key, silence));
             }
         }
-        match found {
-            Some((key, _)) => Some(key),
-            None => None,
-        }
+        found.map(|(key, _)| key)
     }
 
     // Gives the stream a place.

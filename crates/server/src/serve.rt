@@ -69,33 +69,35 @@ pub fn serve_until<
         stop,
         beginning,
     };
-    let context = Context {
-        shared,
-        common: &common,
-    };
-    if run(rt, &context, workers) {
+    run(rt, shared, &common, workers)
+}
+
+// Logs the start, before any loop answers, and runs a loop for each worker, until all have ended.
+fn run<
+    M: Measured<Event = TypedEvent, Out = TypedActions, Sizes = StoreSizes> + Send + Sync,
+    L: Ledger + Send + Sync,
+    R: Net<Listener = TcpListener, Stream = TcpStream> + Threads + Wait + Clock + Sync,
+>(
+    rt: &R,
+    shared: &Shared<M, L>,
+    common: &Common<'_>,
+    workers: Vec<Worker<M, L>>,
+) -> Result<(), ServeError> {
+    let context = Context { shared, common };
+    log_start(common);
+    let well = thread::scope(
+        thread::scope_env(),
+        rt,
+        |scope| start_all(rt, scope, &context, workers),
+    );
+    if well {
         Ok(())
     } else {
         Err(ServeError::Threads)
     }
 }
 
-// Logs the start, before any loop answers, and runs a loop for each worker, until all have ended; whether each had its
-// thread.
-fn run<
-    M: Measured<Event = TypedEvent, Out = TypedActions, Sizes = StoreSizes> + Send + Sync,
-    L: Ledger + Send + Sync,
-    R: Net<Listener = TcpListener, Stream = TcpStream> + Threads + Wait + Clock + Sync,
->(rt: &R, context: &Context<'_, M, L>, workers: Vec<Worker<M, L>>) -> bool {
-    log_start(context.common);
-    thread::scope(
-        thread::scope_env(),
-        rt,
-        |scope| start_all(rt, scope, context, workers),
-    )
-}
-
-// Begins what each worker is for; whether each has its thread.
+// Begins what each worker is for, and tells a service manager once all have begun; whether each has its thread.
 fn start_all<
     's,
     'd,
@@ -113,6 +115,9 @@ fn start_all<
     for worker in workers {
         let started = start(rt, scope, context, worker);
         well = well && started;
+    }
+    if well {
+        context.common.ends.tell("READY=1");
     }
     well
 }

@@ -85,6 +85,7 @@ pub(crate) fn ask_servers<
 >(rt: &R, context: &Context<'_, M, L>, worker: &mut Worker<M, L>) {
     let servers = &context.common.ends.servers;
     let Ok(mut events) = Events::with_capacity(context.common.alloc, EVENTS) else {
+        context.common.give_up();
         return;
     };
     let mut poll = servers.poll.lock(rt);
@@ -281,7 +282,7 @@ fn watch(servers: &Poller, talks: &mut Slab<Talk>, talk: Talk) -> Result<(), Ask
 }
 
 // Goes on with the talk of this key where there is something to do, and ends it where its reply has come, where it has
-// failed and, at a check, where its time is over.
+// failed and, at a check, where its time is over, even if a part of its reply has just come.
 fn advance<M: Machine<Event = TypedEvent, Out = TypedActions>, L: Ledger, R: Wait + Clock>(
     rt: &R,
     context: &Context<'_, M, L>,
@@ -319,11 +320,13 @@ fn end_of<R: Wait + Clock>(
 ) -> Option<Result<Vec<u8>, AskFault>>
     ensures { IfSome result (λ end. IfOk end (λ v. length v.items < 2 ^ 16)) }
 {
-    if talk.due {
-        talk.advance(common.alloc, buffer)
-    } else if check && common.moment(rt).saturating_sub(talk.moment) >= TCP_WAIT_MS {
-        Some(Err(AskFault::Silent))
-    } else {
-        None
+    if talk.due
+        && let Some(end) = talk.advance(common.alloc, buffer)
+    {
+        return Some(end);
     }
+    if check && common.moment(rt).saturating_sub(talk.moment) >= TCP_WAIT_MS {
+        return Some(Err(AskFault::Silent));
+    }
+    None
 }

@@ -1,35 +1,30 @@
 //! Admission of clients' questions to the resolver: of equal ones few are under way at a time, the others wait.
 ghost use Rattle.std.specs.Prelude.{◌≡◌, ◌≤◌, IfSome, length};
 ghost use Rattle.events.specs.Views.{action_view};
-ghost use Rattle.server.specs.Entries.{IsEntry, IsAdmitted, failure_copy};
+ghost use Rattle.typed.specs.Views.{parsed_view};
+ghost use Rattle.server.specs.Askers.{admission_client};
+ghost use Rattle.server.specs.Entries.{IsEntry, IsAdmitted, IsDecided, IsStanding, failure_copy};
 
+use crate::passage::Standing;
 use crate::query::{Asker, Query, asker_of};
-use admission::{Admission, Decision, Held, Limits};
-use dispatch::{bytes_of, failure_for, is_failure, is_plain_query, question_end};
+use admission::{Admission, Decision, Held, Limits, PLACES};
+use dispatch::{bytes_of, failure_for, is_failure, question_end};
+use dname::LONGEST_NAME;
 use events::{Action, Bytes};
+use front::Request;
 use std::alloc::Global;
 use std::hash::{DefaultHasher, Hasher};
 use std::sync::atomic::{AtomicBool, Ordering};
 use std::sync::{Mutex, MutexGuard, Wait};
-
-// Equal questions that are under way at a time.
-const EQUAL: usize = 4;
-
-// Places, and how many of them are for addresses that have none.
-const PLACES: usize = 1_024;
-
-const RESERVE: usize = 64;
-
-// Questions that wait at most.
-const WAITING: usize = 4_096;
+use typed::Parsed;
 
 // Bytes of a header, and of a type and a class.
 const HEADER: usize = 12;
 
 const TYPE_AND_CLASS: usize = 4;
 
-// Bytes that are hashed at most: a name on the wire (RFC 1035, section 2.3.4), a type, a class, and RD.
-const MOST_HASHED: usize = 255 + TYPE_AND_CLASS + 1;
+// The class IN, as it stands in a message (RFC 1035, section 3.2.4).
+const IN: [u8; 2] = [0, 1];
 
 /// A question in admission: a hash of what is asked, and the number under which its client is counted there.
 #[derive(Clone, Copy)]
@@ -67,7 +62,8 @@ pub(crate) fn ask_for(
     moment: u64,
     query: Query,
 ) -> Entry
-    ensures { IsAdmitted query result }
+    ensures decided { IsDecided admission.old question.key question.client moment query result admission.new }
+    ensures kept { IsAdmitted query result }
 {
     let Question { key, client } = question;
     entry_of(admission.admit(key, client, moment, query))
@@ -103,14 +99,7 @@ pub(crate) struct SharedAdmission {
 impl SharedAdmission {
     /// With nobody in it. One address has so many questions under way and waiting at most.
     pub fn new(alloc: Global, seed: &[u8], each: u16) -> Option<SharedAdmission> {
-        let limits = Limits {
-            equal: EQUAL,
-            each: usize::from(each),
-            places: PLACES,
-            reserve: RESERVE,
-            waiting: WAITING,
-        };
-        let admission = Admission::new(alloc, limits).ok()?;
+        let admission = Admission::new(alloc, Limits::of_address(usize::from(each))).ok()?;
         let mut start = DefaultHasher::new();
         start.write(seed);
         Some(SharedAdmission {
@@ -121,33 +110,66 @@ impl SharedAdmission {
         })
     }
 
-    // A hash of the question in lower case, of its type and class, and of RD. None where there is no plain question.
+    // A hash of a question: of its name in lower case, of its type and class as they stand in a message, and of RD.
+    fn key_of(&self, name: &[u8], type_and_class: [u8; TYPE_AND_CLASS], recursion: u8) -> u64 {
+        let [high, low, class_high, class_low] = type_and_class;
+        let mut hasher = self.start;
+        hasher.write(name);
+        hasher.write(&[high, low, class_high, class_low, recursion]);
+        hasher.finish()
+    }
+
+    // The same of the question of a message, whose name is not compressed. None where it has no such question.
     fn key_in(&self, message: &[u8]) -> Option<u64>
         ensures { IfSome result (λ key. 17 ≤ length message.now) }
     {
         let end = question_end(message)?;
         let question = message.get(HEADER..end)?;
-        let mut room = [0u8; MOST_HASHED];
-        let hashed = room.get_mut(..=question.len())?;
-        hashed[..question.len()].copy_from_slice(question);
-        hashed[..question.len() - TYPE_AND_CLASS].make_ascii_lowercase();
-        hashed[question.len()] = message.get(2)? & 1;
-        let mut hasher = self.start;
-        hasher.write(hashed);
-        Some(hasher.finish())
+        let mut room = [0u8; LONGEST_NAME];
+        let name = room.get_mut(..question.len() - TYPE_AND_CLASS)?;
+        name.copy_from_slice(&question[..question.len() - TYPE_AND_CLASS]);
+        name.make_ascii_lowercase();
+        let mut type_and_class = [0u8; TYPE_AND_CLASS];
+        type_and_class.copy_from_slice(&question[question.len() - TYPE_AND_CLASS..]);
+        Some(self.key_of(&*name, type_and_class, message.get(2)? & 1))
     }
 
-    /// What a query asks. None where it needs no admission: it is no plain query.
-    pub fn question(&self, query: &Query) -> Option<Question> {
-        let bytes = query.bytes.as_slice();
-        if !is_plain_query(bytes) {
-            return None;
-        }
-        let key = self.key_in(bytes)?;
-        Some(Question {
+    // What a query asks that this client sent. However its bytes write the name, equal questions have one key, that of
+    // their replies.
+    fn question(&self, asker: Asker, query: &front::Query) -> Question
+        ensures { result.client ≡ admission_client asker.way asker.client }
+    {
+        let [high, low] = query.kind.number().to_be_bytes();
+        let key = self.key_of(
+            query.name.wire(),
+            [high, low, IN[0], IN[1]],
+            u8::from(query.start.wants_recursion()),
+        );
+        Question {
             key,
-            client: query.asker.admission_client(),
-        })
+            client: asker.admission_client(),
+        }
+    }
+
+    /// How a message that was read stands in admission: each query asks for it, and nothing else does.
+    pub fn standing_of(&self, read: &Parsed) -> Standing
+        ensures { IsStanding (parsed_view read.now) result }
+    {
+        match read {
+            Parsed::Client {
+                client,
+                way,
+                request: Request::Query(query),
+                ..
+            } => {
+                let asker = Asker {
+                    client: *client,
+                    way: *way,
+                };
+                Standing::Asks(self.question(asker, query))
+            }
+            _ => Standing::Free,
+        }
     }
 
     /// Admission for several questions in a row, held until the guard is dropped. Then `note_called` is due before.
@@ -182,8 +204,9 @@ impl SharedAdmission {
         }
     }
 
-    /// The reply to a question that waits for what failed now, and since when that waited.
-    pub fn next_failed<R: Wait>(&self, rt: &R, failed: &Action) -> Option<(u64, Action)> {
+    /// The reply to a question that waits for what failed now, and since when that waited; no reply where no memory is
+    /// left for it. None where no such question waits.
+    pub fn next_failed<R: Wait>(&self, rt: &R, failed: &Action) -> Option<(u64, Option<Action>)> {
         asker_of(failed)?;
         let failure = bytes_of(failed).as_slice();
         if !is_failure(failure) {
@@ -194,16 +217,26 @@ impl SharedAdmission {
         let reply = self.failure_of(failure, &held.payload.bytes);
         let (since, asker) = (held.since, held.payload.asker);
         drop(held);
-        Some((since, copied_failure(failed, asker, reply?)))
+        let copy = match reply {
+            Some(bytes) => Some(copied_failure(failed, asker, bytes)),
+            None => None,
+        };
+        Some((since, copy))
     }
 
-    // The bytes of a failure as the reply to this query. None where no memory is left for them.
+    // The bytes of a failure as the reply to this query, with its question as it is spelt there; where its name is
+    // compressed there, as the failure has it. None where no memory is left for them.
     fn failure_of(&self, failure: &[u8], query: &Bytes) -> Option<Bytes>
-        requires { 12 ≤ length failure.now }
+        requires header { 12 ≤ length failure.now }
+        requires short { length failure.now ≤ 65535 }
     {
         let query = query.as_slice();
-        let end = question_end(query)?;
-        failure_for(self.alloc, failure, query, end).ok()
+        if let Some(end) = question_end(query) {
+            return failure_for(self.alloc, failure, query, end).ok();
+        }
+        let mut bytes = Vec::from_slice(self.alloc, failure).ok()?;
+        bytes[..2].copy_from_slice(query.get(..2)?);
+        Some(Bytes::new(bytes))
     }
 
     /// A question that is called in.

@@ -33,6 +33,7 @@ pub(crate) fn take_streams<
 >(rt: &R, context: &Context<'_, M, L>, worker: &mut Worker<M, L>) {
     let streams = &context.common.ends.streams;
     let Ok(mut events) = Events::with_capacity(context.common.alloc, EVENTS) else {
+        context.common.give_up();
         return;
     };
     let mut poll = streams.poll.lock(rt);

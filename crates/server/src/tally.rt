@@ -7,14 +7,14 @@ use causes::Cause;
 use counters::{COUNTERS, Cells, Counter, Outcome, Reply, Way, count};
 use dispatch::question_end;
 use events::Action;
+use limits::{MAX_OPEN_QUERIES, QUERY_LIFETIME_MS};
 use std::alloc::Global;
 use std::sync::{Mutex, Wait};
 
-// Queries that wait for other servers at most, as the resolver has it.
-const MOST_OPEN: usize = 1_024;
+// After so many milliseconds no reply comes any more.
+const NOTED_MS: u64 = 12_000;
 
-// After so many milliseconds no reply comes any more: longer than a query is open.
-const OPEN_MS: u64 = 12_000;
+const _: () = prove!(QUERY_LIFETIME_MS < NOTED_MS);
 
 /// A client's query: whose it is, its ID, and when it came.
 #[derive(Clone, Copy)]
@@ -47,7 +47,7 @@ impl Tally {
     pub fn new(alloc: Global) -> Option<Tally> {
         Some(Tally {
             cells: Cells::new(alloc).ok()?,
-            open: Mutex::new(Vec::with_capacity(alloc, MOST_OPEN).ok()?),
+            open: Mutex::new(Vec::with_capacity(alloc, MAX_OPEN_QUERIES).ok()?),
         })
     }
 
@@ -115,14 +115,18 @@ impl Tally {
         }
     }
 
-    /// What the counters hold, and how many queries wait for other servers.
-    pub fn values<R: Wait>(&self, rt: &R) -> ([u64; COUNTERS], u64) {
-        (self.cells.values(), self.open_queries(rt))
+    /// What the counters hold, and how many queries wait for other servers at this moment.
+    pub fn values<R: Wait>(&self, rt: &R, now: u64) -> ([u64; COUNTERS], u64) {
+        (self.cells.values(), self.open_queries(rt, now))
     }
 
-    /// How many queries wait for other servers.
-    pub fn open_queries<R: Wait>(&self, rt: &R) -> u64 {
-        self.open.lock(rt).len() as u64
+    /// How many queries wait for other servers at this moment. A query that the resolver dropped, for want of memory,
+    /// is not counted once no reply can come to it any more.
+    pub fn open_queries<R: Wait>(&self, rt: &R, now: u64) -> u64 {
+        let open = self.open.lock(rt);
+        open.iter()
+            .filter(|query| may_be_open(query, now))
+            .count() as u64
     }
 
     /// What one counter holds.
@@ -150,12 +154,17 @@ impl Tally {
     }
 }
 
+// Whether a reply may still come to a query that was noted.
+fn may_be_open(query: &Arrival, now: u64) -> bool {
+    now.saturating_sub(query.moment) < NOTED_MS
+}
+
 // One query more that is open.
 fn note(open: &mut Vec<Arrival>, came: Arrival, now: u64) {
-    if open.len() >= MOST_OPEN {
-        open.retain(|query| now.saturating_sub(query.moment) < OPEN_MS);
+    if open.len() >= MAX_OPEN_QUERIES {
+        open.retain(|query| may_be_open(query, now));
     }
-    if open.len() < MOST_OPEN {
+    if open.len() < MAX_OPEN_QUERIES {
         let _ = open.push(came);
     }
 }

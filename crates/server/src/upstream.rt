@@ -60,6 +60,7 @@ pub(crate) fn take_answers<
 >(rt: &R, context: &Context<'_, M, L>, worker: &mut Worker<M, L>) {
     let asks = &context.common.ends.asks;
     let Ok(mut events) = Events::with_capacity(context.common.alloc, EVENTS) else {
+        context.common.give_up();
         return;
     };
     let mut poll = asks.poller.poll.lock(rt);

@@ -13,6 +13,9 @@ use wire::Writer;
 /// How many messages of clients step under one lock at most.
 pub(crate) const MOST_AT_ONCE: usize = 8;
 
+// Bytes of memory that is kept for a message at most.
+const MOST_ROOM_BYTES: usize = 1_024;
+
 /// What a loop has of its own: its ticket, and memory that it keeps from one message to the next.
 #[derive(Drop)]
 pub(crate) struct Worker<M: Machine<Event = TypedEvent, Out = TypedActions>, L: Ledger> {
@@ -49,12 +52,13 @@ impl<M: Machine<Event = TypedEvent, Out = TypedActions>, L: Ledger> Worker<M, L>
         Ok(room)
     }
 
-    /// Keeps the memory of a message for the next ones.
+    /// Keeps the memory of a message for the next ones, unless it is much: a short message may wait in it.
     pub fn keep_room(&mut self, query: Query) {
-        if self.rooms.len() < MOST_AT_ONCE {
-            let _ = self.rooms.push(query.bytes.into_items());
+        let room = query.bytes.into_items();
+        if self.rooms.len() < MOST_AT_ONCE && room.capacity() <= MOST_ROOM_BYTES {
+            let _ = self.rooms.push(room);
         } else {
-            drop(query);
+            drop(room);
         }
     }
 }
