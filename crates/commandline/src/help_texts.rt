@@ -160,7 +160,8 @@ const LINE_FAULT: &str =
 ";
 
 // A file that is not read.
-const UNREADABLE: &str = "  error: FILE: unreadable    the file is missing, is a folder, may not be read, or is not UTF-8
+const UNREADABLE: &str =
+    "  error: FILE: unreadable    the file is missing, is a folder, may not be read, or is not UTF-8
 ";
 
 // A word that is no name.

@@ -92,7 +92,9 @@ impl<M: Machine<Event = TypedEvent, Out = TypedActions>, L: Ledger> Context<'_, 
         since: u64,
     ) -> bool {
         let Common {
-            alloc, admission, ..
+            alloc,
+            admission,
+            ..
         } = self.common;
         let came = self.common.arrival(&query, since);
         let joined = match Passage::read(*alloc, admission, moment, query, admitted, came) {

@@ -99,12 +99,7 @@ impl<M: Machine<Event = TypedEvent, Out = TypedActions>> Passage<M> {
     }
 
     // The query of a client that is this event, of which that was read.
-    fn of(
-        event: Event,
-        parsed: TypedEvent,
-        standing: Standing,
-        came: Option<Arrival>,
-    ) -> Passage<M>
+    fn of(event: Event, parsed: TypedEvent, standing: Standing, came: Option<Arrival>) -> Passage<M>
         requires read { ReadAs (event_view event) parsed }
         requires client { IsClients (event_view event) }
         ensures { result.event ≡ Some (event_view event) }

@@ -124,9 +124,7 @@ impl Tally {
     /// is not counted once no reply can come to it any more.
     pub fn open_queries<R: Wait>(&self, rt: &R, now: u64) -> u64 {
         let open = self.open.lock(rt);
-        open.iter()
-            .filter(|query| may_be_open(query, now))
-            .count() as u64
+        open.iter().filter(|query| may_be_open(query, now)).count() as u64
     }
 
     /// What one counter holds.
