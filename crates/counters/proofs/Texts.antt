@@ -5,6 +5,12 @@ use Rattle.counters.specs.Exposition.{bucket_line, bucket_lines, times_in, value
 use Rattle.counters.specs.declared.counter.Counter.TheVariants as counter
 use Rattle.counters.specs.declared.labels.Bucket.{Bucket}
 
+-- Two texts, each behind those before it.
+pub two_behind : (t0 t1 t2 m1 m2 : List ℕ)
+    → t1 ≡ t0 ++ m1 → t2 ≡ t1 ++ m2
+    → t2 ≡ t0 ++ (m1 ++ m2)
+two_behind t0 t1 t2 m1 m2 h1 h2 = rw (h2, h1) (simp append_assoc)
+
 -- Three texts, each behind those before it.
 pub three_behind : (t0 t1 t2 t3 m1 m2 m3 : List ℕ)
     → t1 ≡ t0 ++ m1 → t2 ≡ t1 ++ m2 → t3 ≡ t2 ++ m3

@@ -134,14 +134,19 @@ socket_faults =
 unfoldable pub gauge : List ℕ → List ℕ → ℕ → List ℕ
 gauge name help n = head name help (codes "gauge") ++ (name ++ codes " " ++ decimal n ++ codes "\n")
 
+-- What replies came of: a SERVFAIL of its cause, an answer of where its records were found.
+unfoldable pub origin_metrics : List ℕ → List ℕ
+origin_metrics cells =
+    metric cells (codes "resolverd_failures_total") (codes "Replies of SERVFAIL, by the cause.") causes
+    ++ metric cells (codes "resolverd_answers_total") (codes "Replies of NOERROR and NXDOMAIN, by what they were made of.") sources
+
 -- Queries, and their replies.
 unfoldable pub client_metrics : List ℕ → List ℕ
 client_metrics cells =
     metric cells (codes "resolverd_queries_total") (codes "Queries that came, by the way and the type.") queries
     ++ (metric cells (codes "resolverd_replies_total") (codes "Replies that went to clients, by the RCODE.") replies
     ++ (metric cells (codes "resolverd_truncated_replies_total") (codes "Replies that were cut to fit into a datagram.") truncated
-    ++ (metric cells (codes "resolverd_failures_total") (codes "Replies of SERVFAIL, by the cause.") causes
-    ++ metric cells (codes "resolverd_answers_total") (codes "Replies of NOERROR and NXDOMAIN, by what they were made of.") sources)))
+    ++ origin_metrics cells))
 
 -- Asks to other servers.
 unfoldable pub ask_metrics : List ℕ → List ℕ

@@ -1,10 +1,14 @@
 -- What is answered over HTTP (RFC 9110, RFC 9112).
-use Rattle.std.specs.Prelude.{ℕ, cond, nat_eq, List, ◌++◌, codes, decimal, length}
-use Rattle.std.specs.List.{starts_with}
+use Rattle.std.specs.Prelude.{ℕ, Bool, cond, nat_eq, List, ◌++◌, codes, decimal, length}
+use Rattle.std.specs.List.{starts_with, ends_with}
 use Rattle.counters.specs.Exposition.{exposition}
 use Rattle.counters.specs.declared.http.Answer.{Answer}
 use Rattle.counters.specs.declared.stores.StoreSizes.{StoreSizes}
 use Rattle.counters.specs.declared.http.Answer.TheVariants.{Metrics, NotFound, NotAllowed}
+
+-- A request has come whole where it ends with an empty line, as one without content does (RFC 9112, section 2.1).
+abbrev pub is_whole : List ℕ → Bool
+is_whole request = ends_with nat_eq request (codes "\r\n\r\n")
 
 -- The counters for `GET /metrics`, nothing for another path, and for another method.
 abbrev pub answer_for : List ℕ → Answer

@@ -2,7 +2,7 @@
 ghost use Rattle.std.specs.Prelude.{◌≡◌, ◌≤◌, ◌++◌, codes, length, IfOk, OnOk, string_bytes};
 ghost use Rattle.std.specs.List.{flat_map};
 ghost use Rattle.counters.specs.Counters.{counters};
-ghost use Rattle.counters.specs.Exposition.{ask_metrics, bucket_line, bucket_lines, buckets, client_metrics, count_line, counter_line, exposition, gauge, head, loss_metrics, metric, store_line, store_sizes, sum_line, times, times_in, totals, value};
+ghost use Rattle.counters.specs.Exposition.{ask_metrics, bucket_line, bucket_lines, buckets, client_metrics, count_line, counter_line, exposition, gauge, head, loss_metrics, metric, origin_metrics, store_line, store_sizes, sum_line, times, times_in, totals, value};
 
 use crate::counter::{COUNTERS, Counter};
 use crate::labels::{AskFault, Bucket, QueryType, Rcode, SocketFault, Source, Way};
@@ -185,6 +185,17 @@ fn put_client_metrics<A: Allocator>(
         &[Counter::Truncated],
         cells,
     )?;
+    put_origin_metrics(out, cells)
+}
+
+// The lines of what replies came of.
+#[tactic(auto, unfolding(crate::specs::Exposition::origin_metrics))]
+fn put_origin_metrics<A: Allocator>(
+    out: &mut String<A>,
+    cells: &[u64; COUNTERS],
+) -> Result<(), Starved>
+    ensures { OnOk result (string_bytes out.new ≡ string_bytes out.old ++ origin_metrics cells.now) }
+{
     put_metric(
         out,
         "resolverd_failures_total",

@@ -1,7 +1,7 @@
 //! Requests for the counters, and their responses, over HTTP (RFC 9110, RFC 9112). Of a request its first line counts
 //! alone, and each stream has one.
 ghost use Rattle.std.specs.Prelude.{◌≡◌, ◌++◌, OnOk, string_bytes};
-ghost use Rattle.counters.specs.Responses.{answer_for, response, response_by, text_head, text_response};
+ghost use Rattle.counters.specs.Responses.{answer_for, is_whole, response, response_by, text_head, text_response};
 
 use crate::counter::COUNTERS;
 use crate::exposition::put_metrics;
@@ -39,7 +39,9 @@ impl Answer {
 }
 
 /// Whether a request has come whole, which ends with an empty line.
-pub fn is_request(bytes: &[u8]) -> bool {
+pub fn is_request(bytes: &[u8]) -> bool
+    ensures { result ≡ is_whole bytes.now }
+{
     bytes.ends_with(b"\r\n\r\n")
 }
 
