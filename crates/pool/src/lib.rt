@@ -2,9 +2,9 @@
 //! its own and keeps the entries, and in the end what they kept is held against the book's history.
 //!
 //! `Shared::new` puts a book behind a lock. `submit` takes one step of its machine as the worker of a ticket, on any
-//! thread, and answers with its entry, `take_step` with what came out alone; `step_locked` takes several under
-//! one lock. `sizes` tells the sizes of its state. When all are done, `gather` takes the book (`into_book`) and what
-//! each worker `Kept`.
+//! thread, and answers with its entry, `take_step` with what came out alone. `Shared::lock` holds the lock for several
+//! steps in a row, each of which `step_locked` takes. `sizes` tells the sizes of its state. When all are done, `gather`
+//! takes the book (`into_book`) and what each worker `Kept`.
 //!
 //! Promised: a step is that worker's, on that event and with its next number (`Enters`, `EntersAndGives`), and a
 //! refusal leaves the ticket as `IsEventRefused` says. The sizes that are told are those of a state to which one
