@@ -3,7 +3,8 @@
 //!
 //! `read_framed` takes one frame off a stream and leaves the rest unread, or says that the stream is at its end.
 //! `write_framed` writes the bytes of a message as one frame, its length and its first bytes in one write (RFC
-//! 7766, section 8). `framed` is the frame that stands first among bytes that came, for streams that are not waited for.
+//! 7766, section 8). `framed` is the frame that stands first among bytes that came, for streams that are not waited
+//! for.
 //!
 //! Promised: the frame that stood first, and what is left of the stream (`IsTaken`, `IsOver`), or why none was
 //! taken (`FrameError`, `IsNotTaken`); what was written (`frame`, `IsNotWritten`); which frame came (`BeginsWith`).
