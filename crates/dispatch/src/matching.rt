@@ -5,8 +5,8 @@ ghost use Rattle.dispatch.specs.Repeats.{Repeats, RepeatsAsk, IsAcceptedFor};
 use memory::{Heap, Starved};
 use wire::{Message, Question, View, WireError, decode};
 
-/// Whether a message repeats an ask: a reply of operation 0 under its ID, with its one question (RFC 5452, section 9.1).
-/// Whatever the resolver accepts for the ask that went out in these bytes repeats it.
+/// Whether a message repeats an ask: a reply of operation 0 under its ID, with its one question (RFC 5452, section
+/// 9.1). Whatever the resolver accepts for the ask that went out in these bytes repeats it.
 pub fn repeats<A: Heap>(alloc: A, ask: &[u8], reply: &[u8]) -> Result<bool, Starved>
     ensures exact { IfOk result (λ b. IsTrue b ↔ Repeats ask.now reply.now) }
     ensures kept { IfOk result (λ b. IsAcceptedFor ask.now reply.now → IsTrue b) }

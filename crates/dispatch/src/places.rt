@@ -5,8 +5,8 @@ ghost use Rattle.dispatch.specs.Senders.{sender_in};
 
 use rdata::Addr;
 
-/// The number of the stream that came as this one from this address and has this place: four bytes of the address, three
-/// of the count, and the place.
+/// The number of the stream that came as this one from this address and has this place: four bytes of the address,
+/// three of the count, and the place.
 pub fn stream_number(address: Addr, serial: u64, place: u8) -> u64
     ensures { result ≡ number_at address.0 serial place }
 {
