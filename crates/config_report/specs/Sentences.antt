@@ -1,5 +1,5 @@
 -- What may stand where something was refused.
-use Rattle.std.specs.Prelude.{ℕ, Bool, ◌||◌, cond, List, codes}
+use Rattle.std.specs.Prelude.{ℕ, ◌==◌, Bool, false, ◌||◌, cond, List, [], ◌∷◌, codes}
 use Rattle.std.specs.Str.{bytes_eq}
 use Rattle.text_lines.specs.declared.fault.LineKind.{LineKind}
 use Rattle.text_lines.specs.declared.fault.LineKind.TheVariants as line
@@ -12,11 +12,17 @@ use Rattle.zone.specs.declared.fault.ZoneError.TheVariants as rule
 abbrev pub word_count : List ℕ → ℕ
 word_count w = cond (bytes_eq w (codes "listen") || (bytes_eq w (codes "local") || bytes_eq w (codes "metrics"))) 3 2
 
+-- The word was meant to begin a comment: with `#`, as in other files, or with `;` behind a space.
+abbrev pub begins_comment : List ℕ → Bool
+begins_comment [] = false
+begins_comment (c ∷ cs) = c == 35 || c == 59
+
 -- Which words may stand where another one does, in a line that begins with this word.
 abbrev pub words_of : List ℕ → List ℕ
 words_of w =
     cond (bytes_eq w (codes "log")) (codes "a level is warn or info")
-    (codes "a line begins with listen, port, hint, local, cache, delegations, penalties, failures, sockets, workers, streams, clients, loops, metrics, log or seed")
+    (cond (begins_comment w) (codes "a comment has ; as the first byte of its line")
+    (codes "a line begins with listen, port, hint, local, cache, delegations, penalties, failures, sockets, workers, streams, clients, loops, metrics, log or seed"))
 
 -- The form of a line that begins with this word.
 abbrev pub form_of : List ℕ → List ℕ

@@ -1,6 +1,6 @@
 //! What may stand where something was refused.
 ghost use Rattle.std.specs.Prelude.{◌≡◌};
-ghost use Rattle.config_report.specs.Sentences.{file_sentence, form_of, line_sentence, range_of, rule_sentence, word_count, words_of};
+ghost use Rattle.config_report.specs.Sentences.{begins_comment, file_sentence, form_of, line_sentence, range_of, rule_sentence, word_count, words_of};
 
 use masterfile::FileKind;
 use text_lines::LineKind;
@@ -42,9 +42,17 @@ fn words_of(word: &str) -> &'static str
 {
     match word {
         "log" => "a level is warn or info",
+        _ if begins_comment(word) => "a comment has ; as the first byte of its line",
         _ =>
             "a line begins with listen, port, hint, local, cache, delegations, penalties, failures, sockets, workers, streams, clients, loops, metrics, log or seed",
     }
+}
+
+// Whether the word was meant to begin a comment: with `#`, as in other files, or with `;` behind a space.
+fn begins_comment(word: &str) -> bool
+    ensures { result ≡ begins_comment word.now }
+{
+    matches!(word.as_bytes(), [b'#' | b';', ..])
 }
 
 // The form of a line that begins with this word.
