@@ -236,6 +236,13 @@ fn a_start_says_why_it_fails(rt: HostRuntime) -> Result<(), Fail> {
 // What `check-config conf` says of a file in a place: as of a start, with the words before the line of the fault.
 const CHECKS: &[Start] = &[
     (
+        "# a server\nlisten 127.0.0.1 0\n",
+        BUSY,
+        1,
+        "conf:1: # a server: a comment has ; as the first byte of its line\n",
+        "error: conf:1: script 1\n",
+    ),
+    (
         "listen 127.0.0.1 0\nport 0\n",
         BUSY,
         1,
