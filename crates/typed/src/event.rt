@@ -1,6 +1,7 @@
 //! Events whose bytes were read.
 ghost use Rattle.std.specs.Prelude.{◌≡◌, ◌≤◌, ◌↔◌, IfOk, MatchOption, IsTrue};
-ghost use Rattle.runs.specs.States.{Event as EventSpec, latest, moment};
+ghost use Rattle.runs.specs.States.{Event as EventSpec, Datagram, latest, moment};
+ghost use Rattle.events.specs.Paths.{endpoint_view};
 ghost use Rattle.events.specs.Views.{event_view};
 ghost use Rattle.typed.specs.Events.{ReadAs, HasBytes, RepliesToNone};
 ghost use Rattle.typed.specs.Views.{parsed_view};
@@ -160,15 +161,7 @@ fn parse<A: Heap>(alloc: A, event: &Event<A>) -> Result<Option<Parsed<A>>, Starv
             socket,
             from,
             ref bytes,
-        } => match read(alloc, Via::Udp, bytes.as_slice())? {
-            None => return Ok(None),
-            Some(reading) => Parsed::Datagram {
-                moment,
-                socket,
-                from,
-                reading: BoxedReading::new(alloc, reading)?,
-            },
-        },
+        } => return Ok(parse_datagram(alloc, moment, socket, from, bytes.as_slice())?),
         Event::TcpReply {
             moment,
             number,
@@ -181,4 +174,25 @@ fn parse<A: Heap>(alloc: A, event: &Event<A>) -> Result<Option<Parsed<A>>, Starv
         Event::TcpFailed { moment, number } => Parsed::TcpFailed { moment, number },
         Event::Tick { moment } => Parsed::Tick { moment },
     }))
+}
+
+// None where it replies to no question of a served type.
+fn parse_datagram<A: Heap>(
+    alloc: A,
+    moment: u64,
+    socket: u16,
+    from: Endpoint,
+    bytes: &[u8],
+) -> Result<Option<Parsed<A>>, Starved>
+    ensures { IfOk result (λ o. MatchOption o (RepliesToNone (Datagram moment socket (endpoint_view from) bytes.now)) (λ p. ReadAs (Datagram moment socket (endpoint_view from) bytes.now) (parsed_view p))) }
+{
+    match read(alloc, Via::Udp, bytes)? {
+        None => Ok(None),
+        Some(reading) => Ok(Some(Parsed::Datagram {
+            moment,
+            socket,
+            from,
+            reading: BoxedReading::new(alloc, reading)?,
+        })),
+    }
 }
