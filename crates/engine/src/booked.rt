@@ -45,20 +45,8 @@ impl Machine for Core {
     }
 }
 
-impl Measured for Core {
-    type Sizes = StoreSizes;
-
-    ghost use Rattle.lookup.specs.Views.{sizes_of};
-
-    ghost sizes_of = { λ s. sizes_of s.stores };
-
-    fn sizes(state: &Core) -> StoreSizes {
-        state.sizes()
-    }
-}
-
-/// The resolver as a machine whose events were read before its steps, and whose actions are written after them: while it
-/// is locked no bytes are read or written.
+/// The resolver as a machine whose events were read before its steps, and whose actions are written after them: while
+/// it is locked no bytes are read or written.
 pub struct TypedCore;
 
 impl Machine for TypedCore {
@@ -116,8 +104,8 @@ pub fn history_is_run<A: Allocator>(_alloc: A)
     ensures { HistoryIsRun A }
 {}
 
-/// The history of a book of the machine whose messages are read and written outside of its steps is a run too: a step is
-/// one on the bytes that its event was read from, and its actions are the ones that are written of it.
+/// The history of a book of the machine whose messages are read and written outside of its steps is a run too: a step
+/// is one on the bytes that its event was read from, and its actions are the ones that are written of it.
 pub fn typed_history_is_run<A: Allocator>(_alloc: A)
     ensures { TypedHistoryIsRun A }
 {}

@@ -6,8 +6,9 @@
 //! `book::Machine`, so that many workers can share one.
 //!
 //! Promised: a step is one of `runs`, and each law of `laws` is kept by it, whatever run led there (`Steps`). The
-//! history of a shared resolver is a run (`history_is_run`, `typed_history_is_run`). A new resolver is the one of its `Config` (`IsMade`), or
-//! is refused for one of three reasons (`CoreError`). Events that are for no query take no memory (clause `quiet`).
+//! history of a shared resolver is a run (`history_is_run`, `typed_history_is_run`). A new resolver is the one of its
+//! `Config` (`IsMade`), or is refused for one of three reasons (`CoreError`). Events that are for no query take no
+//! memory (clause `quiet`).
 //! Not here: sockets and clocks (`server`); the file of a server (`config`, `server_start`).
 //!
 //! ```text
