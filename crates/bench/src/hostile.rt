@@ -35,6 +35,8 @@ pub enum Hostile {
     Accept,
     /// A cached answer of 4,300 names of servers.
     Names,
+    /// A cached answer of 3,200 names of servers, all of one size and with one end.
+    Twins,
     /// A cached TXT record of 32,000 strings.
     Strings,
     /// A client's query of 65 kB, which has 4,800 records.
@@ -46,12 +48,13 @@ pub enum Hostile {
 }
 
 /// All of them.
-pub const ALL: [Hostile; 9] = [
+pub const ALL: [Hostile; 10] = [
     Hostile::Tree,
     Hostile::Referral,
     Hostile::Addresses,
     Hostile::Accept,
     Hostile::Names,
+    Hostile::Twins,
     Hostile::Strings,
     Hostile::Query,
     Hostile::Labels,
@@ -66,6 +69,7 @@ impl fmt::Display for Hostile {
             Hostile::Addresses => "64 look-ups that find 4,000 addresses each",
             Hostile::Accept => "answer of 4,000 addresses accepted",
             Hostile::Names => "cached answer of 4,300 servers' names",
+            Hostile::Twins => "cached answer of 3,200 servers' names of one size",
             Hostile::Strings => "cached TXT of 32,000 strings",
             Hostile::Query => "query of 65 kB with 4,800 records",
             Hostile::Labels => "64 look-ups of names of 127 labels in full stores",
@@ -129,6 +133,7 @@ impl Hostile {
             Hostile::Tree => trees::learn_tree(talk),
             Hostile::Addresses => trees::learn_many_addresses(talk),
             Hostile::Names => sets::learn_root_servers(talk),
+            Hostile::Twins => sets::learn_twins(talk),
             Hostile::Strings => sets::learn_strings(talk),
             Hostile::Labels => trees::learn_long_names(talk),
             Hostile::Due => open_all(talk),
@@ -144,7 +149,9 @@ impl Hostile {
             Hostile::Addresses => asked(alloc, "x.e", A_TYPE),
             Hostile::Labels => long_query(alloc),
             Hostile::Strings => asked(alloc, "t", TXT_TYPE),
-            Hostile::Names => Ok(from_client(Via::Tcp, query(alloc, "", NS_TYPE, (0, &[]))?)),
+            Hostile::Names | Hostile::Twins => {
+                Ok(from_client(Via::Tcp, query(alloc, "", NS_TYPE, (0, &[]))?))
+            }
             Hostile::Query => Ok(from_client(Via::Tcp, sets::large_query(alloc)?)),
             Hostile::Referral => large_referral(talk, round),
             Hostile::Accept => large_answer(talk, round),

@@ -1,151 +1,200 @@
--- A search among the notes of one size, from the newest on.
-use Rattle.std.proofs.Common.{◌≡◌, ℕ, zero, suc, ◌+◌, ◌-◌, ◌<◌, ◌≤◌, Bool, true, false, ◌≢◌, List, [], ◌∷◌, ◌++◌, length, take, drop, get_or, Option, Some, None, refl, sym, ◌∙◌, ap, subst, arith}
-use Rattle.std.specs.Prelude.{if◌then◌else◌, IfSome, slice_index, nat_eq}
-use Rattle.std.specs.Option.{option_or}
-use Rattle.std.specs.Cmp.Lexicographic.{unequal}
-use Rattle.std.proofs.lemmas.List.{map-append, get_or-map, get_or_default, length-drop, length-take}
-use Rattle.std.proofs.lemmas.List.Elements.{All-get_or}
-use Rattle.std.proofs.Math.Seq.{take-suc, take-length}
+-- The way of a suffix, followed, and what is found where it ends.
+use Rattle.std.proofs.Common.{◌≡◌, ℕ, zero, suc, ◌+◌, ◌-◌, ◌<◌, ◌≤◌, Bool, true, false, ◌≢◌, List, [], ◌∷◌, length, map, get_or, Option, Some, None, refl, sym, ◌∙◌, ap, subst, arith, inl, inr}
+use Rattle.std.proofs.lemmas.Bool.{cases_lt}
+use Rattle.std.specs.Prelude.{if◌then◌else◌, IfSome, slice_index}
+use Rattle.std.proofs.lemmas.List.{get_or-map}
+use Rattle.std.proofs.lemmas.List.Elements.{All-head, All-tail}
 use Rattle.dname.specs.Labels.{same_name, wire}
 use Rattle.dname.specs.Wire.{labels_of, IsWire}
+use Rattle.dname.specs.Laws.{same_name-exact, same_name-equal}
 use Rattle.message_grammar.specs.Packing.{Note, find}
+use Rattle.suffixes.specs.declared.earlier.End.{End}
+use Rattle.suffixes.specs.declared.earlier.End.TheVariants.{Nowhere, Behind, At}
 use Rattle.suffixes.specs.declared.earlier.Noted.{Noted}
-use Rattle.suffixes.specs.Kept.{kept_bytes, note_of, notes_of, IsKept, AreKept, size_at, before_at, IsEnd, AreLinked}
+use Rattle.suffixes.specs.Kept.{kept_bytes, texts_of, note_of, notes_of, IsKept, AreKept}
+use Rattle.suffixes.specs.Ways.{way, next_of, passed, AreLinked, IsReached, ArePut, IsMissed, EndsAt, EndsBehind, IsEndOf}
+use Rattle.suffixes.proofs.Links.{nexts, blank, passed_ended, passed_later}
 
-or_in : (a b c : Option ℕ) → option_or (option_or a b) c ≡ option_or a (option_or b c)
-or_in None b c = refl
-or_in (Some p) b c = refl
+-- ---- all notes
 
-or_none : (a : Option ℕ) → option_or a None ≡ a
-or_none None = refl
-or_none (Some p) = refl
-
-or_reach : (a b : Option ℕ) → IfSome a (λ place. place < 16384) → IfSome b (λ place. place < 16384) → IfSome (option_or a b) (λ place. place < 16384)
-or_reach None b h i = i
-or_reach (Some p) b h i = h
-
-find_head : (x : Note) (later : List Note) (name : List (List ℕ)) → find (x ∷ later) name ≡ option_or (find (x ∷ []) name) (find later name)
-find_head x later name = by (same_name x.suffix name)
+not_here : (names : List ℕ) (x : Noted) (xs : List Noted) (suffix : List ℕ) → IsKept names x → IsWire suffix → (kept_bytes names x ≡ suffix → ⊥)
+    → find (notes_of names (x ∷ xs)) (labels_of suffix) ≡ find (notes_of names xs) (labels_of suffix)
+not_here names x xs suffix h w differs =
+    by (same_name (labels_of (kept_bytes names x)) (labels_of suffix)) refl
   where
-    by : (b : Bool) → (if b then Some x.place else find later name) ≡ option_or (if b then Some x.place else None) (find later name)
-    by true = refl
-    by false = refl
+    by : (b : Bool) → same_name (labels_of (kept_bytes names x)) (labels_of suffix) ≡ b → find (notes_of names (x ∷ xs)) (labels_of suffix) ≡ find (notes_of names xs) (labels_of suffix)
+    by true e = absurd (differs (sym h.wire.bytes ∙ (ap wire (same_name-exact (labels_of (kept_bytes names x)) (labels_of suffix) e) ∙ w.bytes)))
+    by false e = ap (λ (b : Bool). if b then Some x.place else find (notes_of names xs) (labels_of suffix)) e
 
-find_append : (xs ys : List Note) (name : List (List ℕ)) → find (xs ++ ys) name ≡ option_or (find xs name) (find ys name)
-find_append [] ys name = refl
-find_append (x ∷ xs) ys name =
-    let a = find_head x (xs ++ ys) name in
-    let b = ap (option_or (find (x ∷ []) name)) (find_append xs ys name) in
-    let c = sym (or_in (find (x ∷ []) name) (find xs name) (find ys name)) in
-    let d = ap (λ o. option_or o (find ys name)) (sym (find_head x xs name)) in
-    a ∙ (b ∙ (c ∙ d))
+none_has : (names : List ℕ) (notes : List Noted) (suffix : List ℕ) → AreKept names notes → IsWire suffix → ((k : ℕ) → k < length notes → get_or (texts_of names notes) k [] ≡ suffix → ⊥)
+    → find (notes_of names notes) (labels_of suffix) ≡ None
+none_has names [] suffix kept w none = refl
+none_has names (x ∷ xs) suffix kept w none =
+    not_here names x xs suffix (All-head (IsKept names) x xs kept) w (none 0 (omega arith))
+    ∙ none_has names xs suffix (All-tail (IsKept names) x xs kept) w (λ k l. none (suc k) (omega arith))
 
--- The first notes, one more of them.
-find_more : (names : List ℕ) (notes : List Noted) (k : ℕ) (x : Noted) (name : List (List ℕ)) → k < length notes → x ≡ get_or notes k x
-    → find (notes_of names (take (suc k) notes)) name ≡ option_or (find (notes_of names (take k notes)) name) (find (note_of names x ∷ []) name)
-find_more names notes k x name h e =
-    let t : take (suc k) notes ≡ take k notes ++ x ∷ [] = take-suc notes k x h ∙ ap (λ y. take k notes ++ y ∷ []) (sym e) in
-    ap (λ ns. find (notes_of names ns) name) t
-    ∙ (ap (λ ns. find ns name) (map-append (note_of names) (take k notes) (x ∷ [])) ∙ find_append (notes_of names (take k notes)) (note_of names x ∷ []) name)
+first_has : (names : List ℕ) (notes : List Noted) (suffix : List ℕ) (f : ℕ) (d : Noted) → AreKept names notes → IsWire suffix → f < length notes → get_or (texts_of names notes) f [] ≡ suffix
+    → ((k : ℕ) → k < f → get_or (texts_of names notes) k [] ≡ suffix → ⊥) → find (notes_of names notes) (labels_of suffix) ≡ Some (get_or notes f d).place
+first_has names [] suffix f d kept w less here none = absurd (omega arith)
+first_has names (x ∷ xs) suffix zero d kept w less here none =
+    ap (λ (b : Bool). if b then Some x.place else find (notes_of names xs) (labels_of suffix)) (same_name-equal (labels_of (kept_bytes names x)) (labels_of suffix) (ap labels_of here))
+first_has names (x ∷ xs) suffix (suc f) d kept w less here none =
+    not_here names x xs suffix (All-head (IsKept names) x xs kept) w (none 0 (omega arith))
+    ∙ first_has names xs suffix f d (All-tail (IsKept names) x xs kept) w (omega arith) here (λ k l. none (suc k) (omega arith))
 
--- What is searched for, when the first `left` notes are left.
-pub record Searching (names : List ℕ) (notes : List Noted) (suffix : List ℕ) (left : ℕ) (found : Option ℕ) : Type 0 where
-  pub within : left ≤ length notes
-  pub last : 0 < left → size_at notes (left - 1) ≡ length suffix
-  pub so_far : find (notes_of names notes) (labels_of suffix) ≡ option_or (find (notes_of names (take left notes)) (labels_of suffix)) found
-  pub reach : IfSome found (λ place. place < 16384)
+-- ---- the way
 
--- A note of another size has another suffix.
-other_size : (names : List ℕ) (x : Noted) (suffix : List ℕ) → IsKept names x → IsWire suffix → x.size ≢ length suffix → find (note_of names x ∷ []) (labels_of suffix) ≡ None
-other_size names x suffix h w differs =
-    let fits = h.fits in
-    let kept : length (kept_bytes names x) ≡ x.size = omega (arith, length-take x.size (drop x.start names), length-drop x.start names) in
-    let a = ap length h.wire.bytes in
-    let b = ap length w.bytes in
-    let same : same_name (labels_of (kept_bytes names x)) (labels_of suffix) ≡ false =
-    unequal nat_eq (wire (labels_of (kept_bytes names x))) (wire (labels_of suffix)) (λ e. differs (omega arith)) in
-    ap (λ y. if y then Some x.place else None) same
+-- Where the way has come to so far behind a note, and nothing missed that has the suffix.
+pub record IsBehind (notes : List Noted) (first : ℕ) (suffix : List ℕ) (number depth n w : ℕ) : Type 0 where
+  pub before : ℕ
+  pub next : depth ≡ suc before
+  pub comes : passed notes suffix first before ≡ n
+  pub some : 0 < n
+  pub within : n ≤ length notes
+  pub takes : w ≡ way suffix before
+  pub leads : next_of notes n w ≡ number
 
-blank : Noted
-blank = record { start = 0; size = 0; place = 0; before = 0 }
+abbrev pub IsSoFar : List Noted → ℕ → List ℕ → ℕ → ℕ → End → Type 0
+IsSoFar notes first suffix number depth Nowhere = depth ≡ 0
+IsSoFar notes first suffix number depth (Behind n w) = IsBehind notes first suffix number depth n w
+IsSoFar notes first suffix number depth (At n) = ⊥
 
-pub size_is : (notes : List Noted) (k : ℕ) (x : Noted) → k < length notes → x ≡ get_or notes k x → size_at notes k ≡ x.size
-size_is notes k x h e = get_or-map (λ n. n.size) notes k x 0 h ∙ ap (λ n. n.size) (sym e)
+pub record Following (texts : List (List ℕ)) (notes : List Noted) (first : ℕ) (suffix : List ℕ) (number depth : ℕ) (end : End) : Type 0 where
+  pub comes : passed notes suffix first depth ≡ number
+  pub within : number ≤ length notes
+  pub early : 0 < number → depth < number
+  pub missed : IsMissed texts notes first suffix depth
+  pub so_far : IsSoFar notes first suffix number depth end
 
-before_is : (notes : List Noted) (k : ℕ) (x : Noted) → k < length notes → x ≡ get_or notes k x → before_at notes k ≡ x.before
-before_is notes k x h e = get_or-map (λ n. n.before) notes k x 0 h ∙ ap (λ n. n.before) (sym e)
+pub following_begins : (texts : List (List ℕ)) (notes : List Noted) (first : ℕ) (suffix : List ℕ) → first ≤ length notes → Following texts notes first suffix first 0 Nowhere
+following_begins texts notes first suffix within = record {
+  comes = refl;
+  within = within;
+  early = λ l. l;
+  missed = λ d j l. absurd (omega arith);
+  so_far = refl;
+}
 
--- Notes of other sizes are passed over.
-skip : (names : List ℕ) (notes : List Noted) (suffix : List ℕ) (first more : ℕ) → AreKept names notes → IsWire suffix → first + more ≤ length notes
-    → ((k : ℕ) → first ≤ k → k < first + more → size_at notes k ≡ length suffix → ⊥)
-    → find (notes_of names (take (first + more) notes)) (labels_of suffix) ≡ find (notes_of names (take first notes)) (labels_of suffix)
-skip names notes suffix first zero kept w within none =
-    let e : first + 0 ≡ first = omega arith in
-    ap (λ k. find (notes_of names (take k notes)) (labels_of suffix)) e
-skip names notes suffix first (suc more) kept w within none =
-    let k = first + more in
-    let e : first + suc more ≡ suc k = omega arith in
-    let less : k < length notes = omega arith in
-    let x : Noted = get_or notes k blank in
-    let at : x ≡ get_or notes k x = get_or_default notes k blank x less in
-    let is : IsKept names x = All-get_or (IsKept names) notes k blank less kept in
-    let differs : x.size ≢ length suffix = λ s. none k (omega arith) (omega arith) (size_is notes k x less at ∙ s) in
-    let here = other_size names x suffix is w differs in
-    let before = skip names notes suffix first more kept w (omega arith) (λ j l m. none j l (omega arith)) in
-    ap (λ k. find (notes_of names (take k notes)) (labels_of suffix)) e
-    ∙ (find_more names notes k x (labels_of suffix) less at
-    ∙ (ap (option_or (find (notes_of names (take k notes)) (labels_of suffix))) here ∙ (or_none (find (notes_of names (take k notes)) (labels_of suffix)) ∙ before)))
+number_of : (number j : ℕ) → 0 < number → number ≡ suc j → number - 1 ≡ j
+number_of number j some e = omega arith
 
-skip_end : (names : List ℕ) (notes : List Noted) (suffix : List ℕ) (count upto : ℕ) → AreKept names notes → IsWire suffix → count ≤ length notes
-    → IsEnd notes (length suffix) count upto
-    → find (notes_of names (take count notes)) (labels_of suffix) ≡ find (notes_of names (take upto notes)) (labels_of suffix)
-skip_end names notes suffix count upto kept w within h =
-    let a = h.within in
-    let e : upto + (count - upto) ≡ count = omega arith in
-    ap (λ k. find (notes_of names (take k notes)) (labels_of suffix)) (sym e)
-    ∙ skip names notes suffix upto (count - upto) kept w (omega arith) (λ k l m. h.none k l (omega arith))
-
-pub searching_begins : (names : List ℕ) (notes : List Noted) (ends suffix : List ℕ) → AreKept names notes → AreLinked notes ends → IsWire suffix → length suffix < 256
-    → Searching names notes suffix (slice_index ends (length suffix)) None
-searching_begins names notes ends suffix kept linked w short =
-    let is = linked.ends_at (length suffix) short in
-    let last = is.last in
-    let within = is.within in
-    let found = find (notes_of names (take (slice_index ends (length suffix)) notes)) (labels_of suffix) in
-    record {
-      within = within;
-      last = last;
-      so_far = ap (λ ns. find (notes_of names ns) (labels_of suffix)) (sym (take-length notes))
-          ∙ (skip_end names notes suffix (length notes) (slice_index ends (length suffix)) kept w (omega arith) is ∙ sym (or_none found));
-      reach = tt {0};
-    }
-
-pub searching_on : (names : List ℕ) (notes : List Noted) (ends suffix : List ℕ) (left : ℕ) (found here now : Option ℕ) (x : Noted) → AreKept names notes → AreLinked notes ends
-    → IsWire suffix → Searching names notes suffix left found → 0 < left → x ≡ get_or notes (left - 1) x → here ≡ find (note_of names x ∷ []) (labels_of suffix)
-    → IfSome here (λ place. place < 16384) → now ≡ option_or here found → Searching names notes suffix x.before now
-searching_on names notes ends suffix left found here now x kept linked w h some at is reach both =
-    let k = left - 1 in
+pub following_on : (names : List ℕ) (notes : List Noted) (first : ℕ) (suffix : List ℕ) (number depth w : ℕ) (end : End) → AreLinked notes
+    → Following (texts_of names notes) notes first suffix number depth end → 0 < number → kept_bytes names (get_or notes (number - 1) blank) ≢ suffix → w ≡ way suffix depth
+    → Following (texts_of names notes) notes first suffix (slice_index (get_or notes (number - 1) blank).next w) (depth + 1) (Behind number w)
+following_on names notes first suffix number depth w end linked h some misses takes =
     let within = h.within in
-    let less : k < length notes = omega arith in
-    let next : left ≡ suc k = omega arith in
-    let link : IsEnd notes (length suffix) k x.before =
-    subst (λ (z : ℕ). IsEnd notes z k x.before) (h.last some) (subst (λ (b : ℕ). IsEnd notes (size_at notes k) k b) (before_is notes k x less at) (linked.back k less)) in
-    let below = link.within in
-    let last = link.last in
-    let earlier = find (notes_of names (take x.before notes)) (labels_of suffix) in
-    let step : find (notes_of names (take left notes)) (labels_of suffix) ≡ option_or earlier here =
-    ap (λ k. find (notes_of names (take k notes)) (labels_of suffix)) next
-    ∙ (find_more names notes k x (labels_of suffix) less at
-    ∙ (λ i. option_or (skip_end names notes suffix k x.before kept w (omega arith) link i) (sym is i))) in
+    let early = h.early some in
+    let less : number - 1 < length notes = omega arith in
+    let text = get_or-map (kept_bytes names) notes (number - 1) blank [] less in
+    let nexts_are = get_or-map (λ (n : Noted). n.next) notes (number - 1) blank [] less in
+    let next = slice_index (get_or notes (number - 1) blank).next w in
+    let number_is : number ≡ suc (number - 1) = omega arith in
+    let leads_to : next_of notes number w ≡ next = ap (λ n. next_of notes n w) number_is ∙ ap (λ l. slice_index l w) nexts_are in
+    let deeper : depth + 1 ≡ suc depth = omega arith in
+    let bound = linked.within number w in
     record {
+      comes = ap (passed notes suffix first) deeper ∙ ((λ i. next_of notes (h.comes i) (sym takes i)) ∙ leads_to);
       within = omega arith;
-      last = last;
-      so_far = h.so_far ∙ (ap (λ o. option_or o found) step ∙ (or_in earlier here found ∙ ap (option_or earlier) (sym both)));
-      reach = subst (λ (o : Option ℕ). IfSome o (λ place. place < 16384)) (sym both) (or_reach here found reach h.reach);
+      early = λ l. let later = linked.later number w (omega arith) in omega arith;
+      missed = λ d j l e s. elim (cases_lt d depth) [
+        | inl before ↦ h.missed d j before e s
+        | inr most ↦ (
+            let here : d ≡ depth = omega arith in
+            let is : number ≡ suc j = sym h.comes ∙ (ap (passed notes suffix first) (sym here) ∙ e) in
+            let bytes : kept_bytes names (get_or notes (number - 1) blank) ≡ suffix = sym text ∙ (ap (λ k. get_or (texts_of names notes) k []) (number_of number j some is) ∙ s) in
+            misses bytes)
+      ];
+      so_far = record {
+        before = depth;
+        next = deeper;
+        comes = h.comes;
+        some = some;
+        within = within;
+        takes = takes;
+        leads = leads_to;
+      };
     }
 
-pub searching_ends : (names : List ℕ) (notes : List Noted) (suffix : List ℕ) (left : ℕ) (found : Option ℕ) → Searching names notes suffix left found → left ≤ 0
-    → found ≡ find (notes_of names notes) (labels_of suffix)
-searching_ends names notes suffix left found h none =
-    let e : left ≡ 0 = omega arith in
-    sym (h.so_far ∙ ap (λ k. option_or (find (notes_of names (take k notes)) (labels_of suffix)) found) e)
+pub following_found : (names : List ℕ) (notes : List Noted) (first : ℕ) (suffix : List ℕ) (number depth : ℕ) (end : End)
+    → Following (texts_of names notes) notes first suffix number depth end → 0 < number → kept_bytes names (get_or notes (number - 1) blank) ≡ suffix
+    → EndsAt (texts_of names notes) notes first suffix number
+following_found names notes first suffix number depth end h some has =
+    let within = h.within in
+    let less : number - 1 < length notes = omega arith in
+    let text = get_or-map (kept_bytes names) notes (number - 1) blank [] less in
+    record {
+      depth = depth;
+      comes = h.comes;
+      some = some;
+      within = within;
+      here = text ∙ has;
+      missed = h.missed;
+    }
+
+pub following_ends : (texts : List (List ℕ)) (notes : List Noted) (first : ℕ) (suffix : List ℕ) (number depth : ℕ) (end : End) → Following texts notes first suffix number depth end → number ≤ 0
+    → IsEndOf texts notes first suffix end
+following_ends texts notes first suffix number depth Nowhere h none =
+    let number_is : number ≡ 0 = omega arith in
+    sym (ap (passed notes suffix first) h.so_far) ∙ (h.comes ∙ number_is)
+following_ends texts notes first suffix number depth (Behind n w) h none =
+    let b = h.so_far in
+    let number_is : number ≡ 0 = omega arith in
+    record {
+      depth = b.before;
+      comes = b.comes;
+      some = b.some;
+      within = b.within;
+      takes = b.takes;
+      none = b.leads ∙ number_is;
+      missed = subst (λ (d : ℕ). IsMissed texts notes first suffix d) b.next h.missed;
+    }
+following_ends texts notes first suffix number depth (At n) h none = absurd h.so_far
+
+-- ---- what is found
+
+-- A note that has the suffix stands on its way, or an earlier one that has it.
+on_way : (names : List ℕ) (notes : List Noted) (firsts suffix : List ℕ) (k : ℕ) → ArePut names notes firsts → k < length notes → get_or (texts_of names notes) k [] ≡ suffix
+    → IsReached (texts_of names notes) notes firsts k suffix
+on_way names notes firsts suffix k h less e = subst (λ (b : List ℕ). IsReached (texts_of names notes) notes firsts k b) e (h.reached k less)
+
+pub found_at : (names : List ℕ) (notes : List Noted) (firsts suffix : List ℕ) (n : ℕ) (x : Noted) → AreKept names notes → ArePut names notes firsts → IsWire suffix
+    → EndsAt (texts_of names notes) notes (slice_index firsts (length suffix)) suffix n → x ≡ get_or notes (n - 1) x → Some x.place ≡ find (notes_of names notes) (labels_of suffix)
+found_at names notes firsts suffix n x kept h w end at =
+    let some = end.some in
+    let within = end.within in
+    let none : (k : ℕ) → k < n - 1 → get_or (texts_of names notes) k [] ≡ suffix → ⊥ = λ k less e.
+    let r = on_way names notes firsts suffix k h (omega arith) e in
+    elim (cases_lt r.depth end.depth) [
+      | inl before ↦ end.missed r.depth r.index before r.stands r.same
+      | inr behind ↦ (
+          let more : end.depth + (r.depth - end.depth) ≡ r.depth = omega arith in
+          let comes : passed notes suffix (slice_index firsts (length suffix)) (end.depth + (r.depth - end.depth)) ≡ suc r.index = ap (passed notes suffix (slice_index firsts (length suffix))) more ∙ r.stands in
+          let later = passed_later notes suffix (slice_index firsts (length suffix)) end.depth (r.depth - end.depth) h.linked (omega arith) in
+          let here = end.comes in
+          let early = r.early in
+          absurd (omega arith))
+    ] in
+    sym (first_has names notes suffix (n - 1) x kept w (omega arith) end.here none ∙ ap (λ (y : Noted). Some y.place) (sym at))
+
+pub found_nowhere : (names : List ℕ) (notes : List Noted) (firsts suffix : List ℕ) → AreKept names notes → ArePut names notes firsts → IsWire suffix → slice_index firsts (length suffix) ≡ 0
+    → None ≡ find (notes_of names notes) (labels_of suffix)
+found_nowhere names notes firsts suffix kept h w none = sym (none_has names notes suffix kept w (λ k less e.
+    let r = on_way names notes firsts suffix k h less e in
+    let whole : 0 + r.depth ≡ r.depth = omega arith in
+    let ended = sym (ap (passed notes suffix (slice_index firsts (length suffix))) whole) ∙ passed_ended notes suffix (slice_index firsts (length suffix)) 0 r.depth none in
+    let stands = r.stands in
+    absurd (omega arith)))
+
+pub found_behind : (names : List ℕ) (notes : List Noted) (firsts suffix : List ℕ) (n v : ℕ) → AreKept names notes → ArePut names notes firsts → IsWire suffix
+    → EndsBehind (texts_of names notes) notes (slice_index firsts (length suffix)) suffix n v → None ≡ find (notes_of names notes) (labels_of suffix)
+found_behind names notes firsts suffix n v kept h w end = sym (none_has names notes suffix kept w (λ k less e.
+    let r = on_way names notes firsts suffix k h less e in
+    elim (cases_lt r.depth (suc end.depth)) [
+      | inl before ↦ end.missed r.depth r.index before r.stands r.same
+      | inr behind ↦ (
+          let over : passed notes suffix (slice_index firsts (length suffix)) (suc end.depth) ≡ 0 = (λ i. next_of notes (end.comes i) (sym end.takes i)) ∙ end.none in
+          let more : suc end.depth + (r.depth - suc end.depth) ≡ r.depth = omega arith in
+          let ended = passed_ended notes suffix (slice_index firsts (length suffix)) (suc end.depth) (r.depth - suc end.depth) over in
+          let comes = ap (passed notes suffix (slice_index firsts (length suffix))) more ∙ r.stands in
+          absurd (omega arith))
+    ]))

@@ -1,10 +1,10 @@
 -- One step of a walk over a name, and of the notes of it.
-use Rattle.std.proofs.Common.{◌≡◌, ℕ, zero, suc, ◌+◌, ◌-◌, ◌<◌, ◌≤◌, Bool, true, false, List, [], ◌∷◌, ◌++◌, length, take, drop, Option, Some, None, refl, sym, ◌∙◌, ap, subst, arith, append_assoc, length-append}
+use Rattle.std.proofs.Common.{◌≡◌, ℕ, zero, suc, ◌+◌, ◌-◌, ◌<◌, ◌≤◌, Bool, true, false, List, [], ◌∷◌, ◌++◌, length, take, drop, map, get_or, Option, Some, None, refl, sym, ◌∙◌, ap, subst, arith, append_assoc, length-append}
 use Rattle.std.specs.Prelude.{if◌then◌else◌, nat_lt}
 use Rattle.std.proofs.lemmas.Bool.Decides.{nat_tests}
-use Rattle.std.proofs.lemmas.List.{append-nil, map-append, take-append-le, drop-append-le, drop-drop, length-drop}
+use Rattle.std.proofs.lemmas.List.{append-nil, map-append, take-append-le, drop-append-le, drop-drop, length-drop, length-map}
 use Rattle.std.proofs.lemmas.List.Elements.{All-nil, All-cons, All-head, All-tail, All-same, All-append}
-use Rattle.std.proofs.Math.Seq.{drop-append_seam, take-length}
+use Rattle.std.proofs.Math.Seq.{drop-append_seam, drop-length, take-length, get_or-append_seam}
 use Rattle.dname.specs.Labels.{root, wire, AreLabels, IsName}
 use Rattle.dname.specs.Wire.{labels_of, IsWire, IsSplit}
 use Rattle.dname.specs.Laws.{labels_of-wire}
@@ -12,7 +12,8 @@ use Rattle.dname.proofs.Split.{wire_is}
 use Rattle.message_grammar.specs.Packing.{Note, find, noted}
 use Rattle.suffixes.specs.declared.earlier.Found.{Found}
 use Rattle.suffixes.specs.declared.earlier.Noted.{Noted}
-use Rattle.suffixes.specs.Kept.{kept_bytes, note_of, notes_of, IsKept, AreKept}
+use Rattle.suffixes.specs.Kept.{kept_bytes, texts_of, note_of, notes_of, IsKept, AreKept}
+use Rattle.suffixes.specs.Ways.{IsPut, ArePut}
 use Rattle.suffixes.specs.Longest.{one_more, here_or, longest, first_notes}
 
 pub name_is_wire : (name : List (List ℕ)) (w : List ℕ) → IsName name → w ≡ wire name → IsWire w
@@ -131,6 +132,7 @@ is_kept_longer names more n h =
       fits = omega (arith, length-append names more);
       wire = subst (λ (x : List ℕ). IsWire x) (sym (kept_longer names more n h.fits)) h.wire;
       reach = reach;
+      ways = h.ways;
     }
 
 -- A name that is kept behind the others changes nothing of what was noted.
@@ -224,21 +226,21 @@ behind : (rest label after : List ℕ) → IsSplit rest label after → drop (su
 behind rest label after s = ap (drop (suc (length label))) s.bytes ∙ drop-append_seam label after
 
 -- The end of the names that an entry of this size from this start on holds.
-kept_last : (names rest : List ℕ) (n : Noted) → drop (length names - length rest) names ≡ rest → n.start ≡ length names - length rest → n.size ≡ length rest
+pub kept_last : (names rest : List ℕ) (n : Noted) → drop (length names - length rest) names ≡ rest → n.start ≡ length names - length rest → n.size ≡ length rest
     → kept_bytes names n ≡ rest
 kept_last names rest n last s z = (λ i. take (z i) (drop (s i) names)) ∙ (ap (take (length rest)) last ∙ take-length rest)
 
 pub noting_on : (names : List ℕ) (old now new : List Noted) (start written at i place : ℕ) (rest label after : List ℕ) (n : Noted) → Noting names old now start written at i place rest
-    → IsSplit rest label after → place < 16384 → i < written → new ≡ now ++ n ∷ [] → n.start ≡ length names - length rest → n.size ≡ length rest → n.place ≡ place
+    → IsSplit rest label after → place < 16384 → i < written → new ≡ now ++ n ∷ [] → n.start ≡ length names - length rest → n.size ≡ length rest → n.place ≡ place → length n.next ≡ 4
     → Noting names old new start written at (i + 1) (place + (1 + length label)) after
-noting_on names old now new start written at i place rest label after n h s near less put starts size placed =
+noting_on names old now new start written at i place rest label after n h s near less put starts size placed four =
     let left : written - i ≡ suc (written - (i + 1)) = omega arith in
     let form = s.wire in
     let within = h.within in
     let bytes = s.size in
     let next : place + 1 + length label ≡ place + (1 + length label) = omega arith in
     let kept : kept_bytes names n ≡ rest = kept_last names rest n h.last starts size in
-    let is : IsKept names n = record { fits = omega arith; wire = subst (λ (x : List ℕ). IsWire x) (sym kept) h.form; reach = omega arith } in
+    let is : IsKept names n = record { fits = omega arith; wire = subst (λ (x : List ℕ). IsWire x) (sym kept) h.form; reach = omega arith; ways = four } in
     let note : Note = record { suffix = label ∷ labels_of after; place = place } in
     let later = first_notes (written - (i + 1)) (place + (1 + length label)) (labels_of after) in
     let step : first_notes (written - i) place (labels_of rest) ≡ note ∷ later =
@@ -268,3 +270,47 @@ noted_behind before names w old new was start written at name e form s kept view
     let same : notes_of names old ≡ was = ap (λ x. notes_of x old) e ∙ (notes_longer before w old kept ∙ view) in
     let last : labels_of (drop start names) ≡ name = ap labels_of (last_name before names w start e s) ∙ name_labels name w form in
     is ∙ (λ i. same i ++ first_notes written at (last i))
+
+-- Notes that are changed where they stand are as many as before.
+pub written_back : (names : List ℕ) (put old : List Noted) (count : ℕ) → notes_of names put ≡ notes_of names old → count ≡ length old → take count (put ++ drop (length put) old) ≡ put
+written_back names put old count same is =
+    let many : length put ≡ length old = sym (length-map put (note_of names)) ∙ (ap length same ∙ length-map old (note_of names)) in
+    let rest : drop (length put) old ≡ [] = ap (λ n. drop n old) many ∙ drop-length old in
+    let whole : put ++ drop (length put) old ≡ put = ap (λ l. put ++ l) rest ∙ append-nil put in
+    (λ i. take ((is ∙ sym many) i) (whole i)) ∙ take-length put
+
+-- Notes that are linked: what is known of them stays.
+pub noting_linked : (names : List ℕ) (old now put : List Noted) (start written at i place : ℕ) (rest : List ℕ) → Noting names old now start written at i place rest → AreKept names put
+    → notes_of names put ≡ notes_of names now → Noting names old put start written at i place rest
+noting_linked names old now put start written at i place rest h kept same =
+    let form = h.form in
+    let within = h.within in
+    record {
+      form = form;
+      within = within;
+      last = h.last;
+      kept = kept;
+      so_far = ap (λ x. x ++ first_notes (written - i) place (labels_of rest)) same ∙ h.so_far;
+    }
+
+-- The bytes of a note that is put behind the others.
+pub pushed_last : (names : List ℕ) (notes new : List Noted) (x : Noted) (rest : List ℕ) → new ≡ notes ++ x ∷ [] → kept_bytes names x ≡ rest → get_or (texts_of names new) (length new - 1) [] ≡ rest
+pushed_last names notes new x rest put is =
+    let all : length (notes ++ x ∷ []) ≡ length notes + 1 = length-append notes (x ∷ []) in
+    let many : length (texts_of names notes) ≡ length notes = length-map notes (kept_bytes names) in
+    let last : length (notes ++ x ∷ []) - 1 ≡ length (texts_of names notes) = omega arith in
+    ap (λ l. get_or (texts_of names l) (length l - 1) []) put
+    ∙ ((λ i. get_or (map-append (kept_bytes names) notes (x ∷ []) i) (last i) []) ∙ (get_or-append_seam (texts_of names notes) (kept_bytes names x) [] [] ∙ is))
+
+texts_longer : (names more : List ℕ) (notes : List Noted) → AreKept names notes → texts_of (names ++ more) notes ≡ texts_of names notes
+texts_longer names more [] h = refl
+texts_longer names more (n ∷ notes) h =
+    let first = All-head (IsKept names) n notes h in
+    let here = kept_longer names more n first.fits in
+    λ i. here i ∷ texts_longer names more notes (All-tail (IsKept names) n notes h) i
+
+-- A name that is kept behind the others leaves the notes on their ways.
+pub put_longer : (names more all : List ℕ) (notes same : List Noted) (firsts : List ℕ) → all ≡ names ++ more → same ≡ notes → AreKept names notes → ArePut names notes firsts → ArePut all same firsts
+put_longer names more all notes same firsts e is kept h =
+    subst (λ (l : List Noted). ArePut all l firsts) (sym is)
+    (subst (λ (t : List (List ℕ)). IsPut t notes firsts (length notes)) (sym (ap (λ a. texts_of a notes) e ∙ texts_longer names more notes kept)) h)

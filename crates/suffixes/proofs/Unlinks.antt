@@ -4,10 +4,12 @@ use Rattle.std.proofs.lemmas.Bool.{cases_lt}
 use Rattle.std.proofs.lemmas.Bool.Decides.{eqb_tells}
 use Rattle.std.proofs.lemmas.Grind.{get_or-set_at}
 use Rattle.std.proofs.lemmas.List.{get_or-map, get_or-set_other, length-set}
+use Rattle.std.proofs.Math.ListN.{get_or-eq_default}
 use Rattle.std.specs.Prelude.{slice_index}
 use Rattle.suffixes.specs.declared.earlier.Noted.{Noted}
-use Rattle.suffixes.specs.Kept.{size_at, IsEnd, AreLinked}
-use Rattle.suffixes.proofs.Links.{none_at}
+use Rattle.suffixes.specs.Kept.{size_at}
+use Rattle.suffixes.specs.Ways.{AreFirsts, ArePut}
+use Rattle.suffixes.proofs.Links.{empty_put}
 
 -- The sizes of the first `count` notes are set back, and the others stand as they were.
 pub record AreUnlinked (notes : List Noted) (old ends : List ℕ) (count : ℕ) : Type 0 where
@@ -15,7 +17,7 @@ pub record AreUnlinked (notes : List Noted) (old ends : List ℕ) (count : ℕ) 
   pub either : (z : ℕ) → (slice_index ends z ≡ 0) ⊎ (slice_index ends z ≡ slice_index old z)
   pub gone : (k : ℕ) → k < count → size_at notes k < 256 → slice_index ends (size_at notes k) ≡ 0
 
-pub none_unlinked : (notes : List Noted) (ends : List ℕ) → AreLinked notes ends → AreUnlinked notes ends ends 0
+pub none_unlinked : (notes : List Noted) (ends : List ℕ) → AreFirsts notes ends → AreUnlinked notes ends ends 0
 none_unlinked notes ends h = record {
   sizes = h.sizes;
   either = λ z. inr refl;
@@ -24,10 +26,10 @@ none_unlinked notes ends h = record {
 
 -- The size of a note that is read at an index.
 abbrev pub read_at : List Noted → ℕ → ℕ
-read_at notes k = (get_or notes k (record { start = 0; size = 0; place = 0; before = 0 })).size
+read_at notes k = (get_or notes k (record { start = 0; size = 0; place = 0; next = [] })).size
 
 pub size_is : (notes : List Noted) (k : ℕ) → k < length notes → size_at notes k ≡ read_at notes k
-size_is notes k less = get_or-map (λ (n : Noted). n.size) notes k (record { start = 0; size = 0; place = 0; before = 0 }) 0 less
+size_is notes k less = get_or-map (λ (n : Noted). n.size) notes k (record { start = 0; size = 0; place = 0; next = [] }) 0 less
 
 set_back : (ends : List ℕ) (size z : ℕ) → size < length ends → (z ≡ size) ⊎ (slice_index ends z ≡ 0) → slice_index (set ends size 0) z ≡ 0
 set_back ends size z less (inl same) = get_or-set_at ends size z 0 0 same less
@@ -66,22 +68,23 @@ one_passed notes old ends k size h is large = record {
   ];
 }
 
-unlinked_at : (notes : List Noted) (old ends : List ℕ) (z upto : ℕ) → AreUnlinked notes old ends (length notes) → z < 256 → slice_index ends z ≡ upto → IsEnd notes z (length notes) upto → slice_index ends z ≡ 0
-unlinked_at notes old ends z zero h small is end = is
-unlinked_at notes old ends z (suc n) h small is end =
-    let within = end.within in
-    let last : size_at notes (suc n - 1) ≡ z = end.last (omega arith) in
-    ap (slice_index ends) (sym last) ∙ h.gone (suc n - 1) (omega arith) (omega arith)
+unlinked_at : (notes : List Noted) (old ends : List ℕ) (z first : ℕ) → AreFirsts notes old → AreUnlinked notes old ends (length notes) → z < 256 → slice_index old z ≡ first → slice_index ends z ≡ first
+    → slice_index ends z ≡ 0
+unlinked_at notes old ends z zero table h small was is = is
+unlinked_at notes old ends z (suc n) table h small was is =
+    let within = table.within z in
+    let e : slice_index old z - 1 ≡ n = omega arith in
+    let last : size_at notes n ≡ z = ap (size_at notes) (sym e) ∙ table.has z (omega arith) in
+    ap (slice_index ends) (sym last) ∙ h.gone n (omega arith) (omega arith)
 
-pub all_unlinked : (notes : List Noted) (old ends : List ℕ) → AreLinked notes old → AreUnlinked notes old ends (length notes) → AreLinked [] ends
-all_unlinked notes old ends linked h = record {
-  sizes = h.sizes;
-  back = λ k less. absurd (omega arith);
-  ends_at = λ z small. subst (λ (e : ℕ). IsEnd [] z 0 e) (sym (none_left z small)) (none_at z);
-}
+pub all_unlinked : (notes : List Noted) (old ends : List ℕ) → AreFirsts notes old → AreUnlinked notes old ends (length notes) → ArePut [] [] ends
+all_unlinked notes old ends table h = empty_put ends h.sizes none_left
   where
-    none_left : (z : ℕ) → z < 256 → slice_index ends z ≡ 0
-    none_left z small = elim (h.either z) [
-      | inl none ↦ none
-      | inr same ↦ unlinked_at notes old ends z (slice_index ends z) h small refl (subst (λ (e : ℕ). IsEnd notes z (length notes) e) (sym same) (linked.ends_at z small))
+    none_left : (z : ℕ) → slice_index ends z ≡ 0
+    none_left z = elim (cases_lt z 256) [
+      | inl small ↦ elim (h.either z) [
+        | inl none ↦ none
+        | inr same ↦ unlinked_at notes old ends z (slice_index old z) table h small refl same
+      ]
+      | inr large ↦ get_or-eq_default ends 0 (let s = h.sizes in omega arith)
     ]

@@ -1,9 +1,11 @@
 //! The suffixes of the names that a message has so far, and the longest that a name ends with.
-ghost use Rattle.std.specs.Prelude.{◌≡◌, ◌<◌, ◌≤◌, ◌++◌, [], ◌∷◌, length, drop, IfOk, IfSome, OnOk, OnErr, vec_len, vec_capacity, min, ◌+◌};
+ghost use Rattle.std.specs.Bool.{OnTrue, OnFalse};
+ghost use Rattle.std.specs.Prelude.{◌≡◌, ◌≢◌, ◌<◌, ◌≤◌, ◌++◌, ◌-◌, [], ◌∷◌, length, drop, IfOk, IfSome, OnOk, OnErr, vec_len, vec_capacity, min, ◌+◌};
 ghost use Rattle.dname.specs.Labels.{wire};
 ghost use Rattle.dname.specs.Wire.{labels_of, IsWire};
 ghost use Rattle.message_grammar.specs.Packing.{find};
-ghost use Rattle.suffixes.specs.Kept.{note_of, notes_of, IsKept, AreKept, AreLinked};
+ghost use Rattle.suffixes.specs.Kept.{kept_bytes, texts_of, bytes_at, notes_of, IsKept, AreKept};
+ghost use Rattle.suffixes.specs.Ways.{way, AreLinked, AreFirsts, IsPut, ArePut, IsEndOf};
 ghost use Rattle.suffixes.specs.Longest.{longest, first_notes};
 
 use dname::{LONGEST_NAME, Name, next_label};
@@ -19,6 +21,9 @@ const SIZES: usize = LONGEST_NAME + 1;
 
 // Room at first for the suffixes of a few names.
 const COMMON_NOTES: usize = 16;
+
+// The ways on from a note: two bits of a suffix tell which one it takes.
+const WAYS: usize = 4;
 
 /// The longest suffix of a name that was written before.
 #[derive(Clone, Copy, Debug)]
@@ -37,8 +42,19 @@ pub struct Noted {
     start: usize,
     size: usize,
     place: u16,
-    // The number of the notes up to the last one before it of its size: 0 where none has that.
-    before: usize,
+    // The numbers of the notes that the ways on from it lead to: 0 where there is none.
+    next: [usize; WAYS],
+}
+
+// Where the way of a suffix ends.
+#[derive(Clone, Copy)]
+pub enum End {
+    // Where it begins: no note has its size.
+    Nowhere,
+    // Behind the note of this number, on this way on from it: no note has the suffix.
+    Behind { number: usize, way: usize },
+    // At the note of this number, which has the suffix.
+    At(usize),
 }
 
 /// The suffixes of the names that a message has so far. Contracts see them with their places, in the order
@@ -48,53 +64,109 @@ pub struct Suffixes<A: Allocator = Global> {
     // The names in wire form, one behind the other: the suffixes of a name are ends of it and share its bytes.
     names: Vec<u8, A>,
     notes: Vec<Noted, A>,
-    // By size, the number of the notes up to the last one of that size: 0 where none has it.
-    ends: [usize; SIZES],
+    // By size, the number of the first note of that size, where the ways of such suffixes begin: 0 where none has it.
+    firsts: [usize; SIZES],
 }
 
 impl<A: Allocator> Model for Suffixes<A> {
     ghost use Rattle.std.specs.Prelude.{List};
     ghost use Rattle.message_grammar.specs.Packing.{Note};
-    ghost use Rattle.suffixes.specs.Kept.{notes_of, AreKept, AreLinked};
+    ghost use Rattle.suffixes.specs.Kept.{notes_of, AreKept};
+    ghost use Rattle.suffixes.specs.Ways.{ArePut};
 
     ghost Value = { List Note };
 
     ghost view = { λ s. notes_of s.names.items s.notes.items };
 
-    ghost invariant = { λ s. (AreKept s.names.items s.notes.items) × (AreLinked s.notes.items s.ends) };
+    ghost invariant = { λ s. (AreKept s.names.items s.notes.items) × (ArePut s.names.items s.notes.items s.firsts) };
 }
 
 // The table without notes.
-fn no_ends() -> [usize; SIZES]
-    ensures { AreLinked [] result }
+fn no_firsts() -> [usize; SIZES]
+    ensures { ArePut [] [] result }
 {
     [0; SIZES]
 }
 
 impl Noted {
-    // Its place, where it has this suffix.
-    fn place_of(&self, names: &[u8], suffix: &[u8]) -> Option<u16>
+    // Whether it has this suffix.
+    fn has(&self, names: &[u8], suffix: &[u8]) -> bool
         requires kept { IsKept names.now self.now }
-        requires wire { IsWire suffix.now }
-        ensures is { result ≡ find (note_of names.now self.now ∷ []) (labels_of suffix.now) }
-        ensures reach { IfSome result (λ place. place < POINTER_LIMIT) }
+        ensures yes { OnTrue result (kept_bytes names.now self.now ≡ suffix.now) }
+        ensures no { OnFalse result (kept_bytes names.now self.now ≢ suffix.now) }
     {
-        if self.size == suffix.len() && &names[self.start..self.start + self.size] == suffix {
-            Some(self.place)
-        } else {
-            None
+        self.size == suffix.len() && &names[self.start..self.start + self.size] == suffix
+    }
+}
+
+// Which way on a suffix takes where it has passed so many notes: two bits of it, from its first byte on. So suffixes
+// of one size go apart where they differ first, and a way is no longer than four notes for each byte.
+fn way_at(suffix: &[u8], depth: usize) -> usize
+    ensures is { result ≡ way suffix.now depth }
+    ensures few { result < 4 }
+{
+    let byte = suffix.get(depth / 4).copied().unwrap_or(0);
+    let bits = match depth % 4 {
+        0 => byte,
+        1 => byte / 4,
+        2 => byte / 16,
+        _ => byte / 64,
+    };
+    usize::from(bits % 4)
+}
+
+// Follows the way of a suffix from this note on.
+fn end_of(notes: &[Noted], first: usize, names: &[u8], suffix: &[u8]) -> End
+    requires kept { AreKept names.now notes.now }
+    requires linked { AreLinked notes.now }
+    requires wire { IsWire suffix.now }
+    requires first { first ≤ length notes.now }
+    ensures { IsEndOf (texts_of names.now notes.now) notes.now first suffix.now result }
+{
+    let mut end = End::Nowhere;
+    let mut number = first;
+    let mut depth = 0;
+    while number > 0 {
+        let note = &notes[number - 1];
+        if note.has(names, suffix) {
+            return End::At(number);
         }
+        let way = way_at(suffix, depth);
+        end = End::Behind { number, way };
+        number = note.next[way];
+        depth += 1;
+    }
+    end
+}
+
+// Puts the last note, which has this suffix, at the end of its way, unless one of the same suffix stands there.
+fn link(notes: &mut [Noted], firsts: &mut [usize; SIZES], names: &[u8], suffix: &[u8])
+    requires kept { AreKept names.now notes.old }
+    requires wire { IsWire suffix.now }
+    requires short { length suffix.now < 256 }
+    requires some { 0 < length notes.old }
+    requires last { bytes_at names.now notes.old (length notes.old - 1) ≡ suffix.now }
+    requires put { IsPut (texts_of names.now notes.old) notes.old firsts.old (length notes.old - 1) }
+    ensures put { ArePut names.now notes.new firsts.new }
+    ensures kept { AreKept names.now notes.new }
+    ensures same { notes_of names.now notes.new ≡ notes_of names.now notes.old }
+{
+    let last = notes.len();
+    match end_of(notes, firsts[suffix.len()], names, suffix) {
+        End::At(_) => {}
+        End::Behind { number, way } => notes[number - 1].next[way] = last,
+        End::Nowhere => firsts[suffix.len()] = last,
     }
 }
 
 // Makes the table of these notes the one without notes: a message has few of its sizes.
-fn unlink(notes: &[Noted], ends: &mut [usize; SIZES])
-    requires { AreLinked notes.now ends.old }
-    ensures { AreLinked [] ends.new }
+fn unlink(notes: &[Noted], firsts: &mut [usize; SIZES])
+    requires { AreFirsts notes.now firsts.old }
+    ensures { ArePut [] [] firsts.new }
 {
     for note in notes {
         if note.size < SIZES {
-            ends[note.size] = 0;
+            firsts[note.size] = 0;
         }
     }
 }
@@ -104,7 +176,7 @@ fn unlink(notes: &[Noted], ends: &mut [usize; SIZES])
 // is room for them.
 fn note_labels<A: Allocator>(
     notes: &mut Vec<Noted, A>,
-    ends: &mut [usize; SIZES],
+    firsts: &mut [usize; SIZES],
     names: &[u8],
     start: usize,
     written: usize,
@@ -114,10 +186,10 @@ fn note_labels<A: Allocator>(
     requires wire { IsWire (drop start names.now) }
     requires short { length (drop start names.now) < 256 }
     requires kept { AreKept names.now notes.old.items }
-    requires linked { AreLinked notes.old.items ends.old }
+    requires put { ArePut names.now notes.old.items firsts.old }
     requires room { vec_len notes.old + min written (length (drop start names.now)) ≤ vec_capacity notes.old }
     ensures kept { AreKept names.now notes.new.items }
-    ensures linked { AreLinked notes.new.items ends.new }
+    ensures put { ArePut names.now notes.new.items firsts.new }
     ensures noted { notes_of names.now notes.new.items ≡ notes_of names.now notes.old.items ++ first_notes written at (labels_of (drop start names.now)) }
 {
     let (_, mut rest) = names.split_at(start);
@@ -134,9 +206,9 @@ fn note_labels<A: Allocator>(
             start: names.len() - size,
             size,
             place: place as u16,
-            before: ends[size],
+            next: [0; WAYS],
         });
-        ends[size] = notes.len();
+        link(notes, firsts, names, rest);
         place += 1 + label.len();
         rest = after;
     }
@@ -151,7 +223,7 @@ impl<A: Heap> Suffixes<A> {
             // Room for any one name.
             names: Vec::with_capacity(alloc, LONGEST_NAME)?,
             notes: Vec::with_capacity(alloc, COMMON_NOTES)?,
-            ends: no_ends(),
+            firsts: no_firsts(),
         })
     }
 
@@ -171,7 +243,7 @@ impl<A: Heap> Suffixes<A> {
         self.names.extend_from_slice(bytes)?;
         note_labels(
             &mut self.notes,
-            &mut self.ends,
+            &mut self.firsts,
             &self.names,
             start,
             written,
@@ -186,27 +258,24 @@ impl<A: Allocator> Suffixes<A> {
     pub fn clear(&mut self)
         ensures { self.new ≡ [] }
     {
-        unlink(&self.notes, &mut self.ends);
+        unlink(&self.notes, &mut self.firsts);
         self.notes.clear();
         self.names.clear();
     }
 
-    // The place of the earliest note of a suffix. Goes over the notes of its size alone, the newest first: so
-    // what it finds last is the earliest.
+    // The place of the earliest note of a suffix, which stands on its way.
     fn find(&self, suffix: &[u8]) -> Option<u16>
         requires wire { IsWire suffix.now }
         requires short { length suffix.now < 256 }
         ensures is { result ≡ find self.now (labels_of suffix.now) }
         ensures reach { IfSome result (λ place. place < POINTER_LIMIT) }
     {
-        let mut left = self.ends[suffix.len()];
-        let mut found = None;
-        while left > 0 {
-            let note = &self.notes[left - 1];
-            found = note.place_of(&self.names, suffix).or(found);
-            left = note.before;
+        let first = self.firsts[suffix.len()];
+        match end_of(&self.notes, first, &self.names, suffix) {
+            End::At(number) => Some(self.notes[number - 1].place),
+            End::Nowhere => None,
+            End::Behind { .. } => None,
         }
-        found
     }
 
     /// The longest suffix of a name, other than the root, that was noted, at its earliest place. Takes no

@@ -63,6 +63,44 @@ pub fn learn_root_servers<A: Heap>(talk: &mut Talk<A>) -> Result<(), Starved> {
     talk.tell_by_tcp(Says::answer(ROOT_SERVERS, &records))
 }
 
+// How many servers of the root are cached whose names are of one size.
+const TWINS: u16 = 3_200;
+
+// Data of servers whose names have 192 bytes each, and differ in their first label alone. The first name stands in the
+// 28th byte of the message, and the end that all have behind its first label.
+fn twins<A: Heap>(alloc: A) -> Result<Vec<u8, A>, Starved> {
+    let mut records = Vec::new(alloc);
+    records.push(0)?;
+    put_middle(&mut records, NS_TYPE, 192)?;
+    put_twin(alloc, &mut records, 0)?;
+    put_label(&mut records, b"y")?;
+    for _ in 0..91 {
+        put_label(&mut records, b"z")?;
+    }
+    records.push(0)?;
+    for n in 1..TWINS {
+        records.push(0)?;
+        put_middle(&mut records, NS_TYPE, 9)?;
+        put_twin(alloc, &mut records, n)?;
+        records.extend_from_slice(&pointer(35))?;
+    }
+    Ok(records)
+}
+
+// The first label of a server's name: six digits, the last of which count.
+fn put_twin<A: Heap>(alloc: A, out: &mut Vec<u8, A>, number: u16) -> Result<(), Starved> {
+    let mut label = String::new(alloc);
+    write!(label, "{number:06}")?;
+    put_label(out, label.as_bytes())
+}
+
+/// 3,200 servers of the root are in the cache, with names of one size that have one end.
+pub fn learn_twins<A: Heap>(talk: &mut Talk<A>) -> Result<(), Starved> {
+    talk.ask("", NS_TYPE)?;
+    let records = twins(talk.heap())?;
+    talk.tell_by_tcp(Says::answer(TWINS, &records))
+}
+
 /// A TXT record of 32,000 strings of a byte is in the cache.
 pub fn learn_strings<A: Heap>(talk: &mut Talk<A>) -> Result<(), Starved> {
     talk.ask("t", TXT_TYPE)?;

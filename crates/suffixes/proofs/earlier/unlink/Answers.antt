@@ -9,8 +9,8 @@ loop-note-preserved c =
     let at = c.loop-note.note-index in
     let is = size_is notes at c.loop-note-test.true in
     elim c.if-note-lt-SIZES.branch [
-      | then-note-lt-SIZES w ↦ subst (λ (ends : List ℕ). AreUnlinked notes c.args.ends.now ends (at + 1)) (sym w.ends-is)
-          (one_unlinked notes c.args.ends.now c.loop-note.ends at (read_at notes at) c.loop-note.invariant is w.if-note-lt-SIZES.true)
-      | else-note-lt-SIZES w ↦ subst (λ (ends : List ℕ). AreUnlinked notes c.args.ends.now ends (at + 1)) (sym w.ends-is)
-          (one_passed notes c.args.ends.now c.loop-note.ends at (read_at notes at) c.loop-note.invariant is w.if-note-lt-SIZES.false)
+      | then-note-lt-SIZES w ↦ subst (λ (firsts : List ℕ). AreUnlinked notes c.args.firsts.now firsts (at + 1)) (sym w.firsts-is)
+          (one_unlinked notes c.args.firsts.now c.loop-note.firsts at (read_at notes at) c.loop-note.invariant is w.if-note-lt-SIZES.true)
+      | else-note-lt-SIZES w ↦ subst (λ (firsts : List ℕ). AreUnlinked notes c.args.firsts.now firsts (at + 1)) (sym w.firsts-is)
+          (one_passed notes c.args.firsts.now c.loop-note.firsts at (read_at notes at) c.loop-note.invariant is w.if-note-lt-SIZES.false)
     ]

@@ -1,11 +1,22 @@
-use Rattle.std.proofs.Common.{rules}
-use Rattle.suffixes.proofs.Search.{searching_begins, searching_on}
+use Rattle.std.proofs.Common.{◌∙◌, ap, rules}
+use Rattle.dname.specs.Wire.{labels_of}
+use Rattle.message_grammar.specs.Packing.{find}
+use Rattle.suffixes.proofs.Search.{found_at, found_nowhere, found_behind}
 use Rattle.suffixes.proofs.earlier.Suffixes.find.Goals as goal
 
-pub loop-left-init : goal.loop-left-init
-loop-left-init g c = searching_begins c.self.inside.names.items c.self.inside.notes.items c.self.inside.ends c.args.suffix.now c.self.invariant.0 c.self.invariant.1 c.requires.wire c.requires.short
+pub returns-in-At-clause-is : goal.returns-in-At-clause-is
+returns-in-At-clause-is g c =
+    let end = rw c.deref.ensures.value at (rw c.deref-2.ensures.value at c.in-At.ensures) in
+    found_at c.self.inside.names.items c.self.inside.notes.items c.self.inside.firsts c.args.suffix.now c.in-At.number c.index.result.now c.self.invariant.0 c.self.invariant.1 c.requires.wire end c.index.ensures
+    ∙ ap (λ notes. find notes (labels_of c.args.suffix.now)) c.self.view_is
 
-pub loop-left-preserved : goal.loop-left-preserved
-loop-left-preserved g c =
-    searching_on c.self.inside.names.items c.self.inside.notes.items c.self.inside.ends c.args.suffix.now c.loop-left.left c.loop-left.found c.place_of.result c.or-found.result
-    c.index-note.result.now c.self.invariant.0 c.self.invariant.1 c.requires.wire c.loop-left.invariant c.loop-left-test.true (search rules) (rw c.deref.ensures.value at c.place_of.ensures.is) c.place_of.ensures.reach c.or-found.ensures
+pub returns-in-Nowhere-clause-is : goal.returns-in-Nowhere-clause-is
+returns-in-Nowhere-clause-is g c =
+    found_nowhere c.self.inside.names.items c.self.inside.notes.items c.self.inside.firsts c.args.suffix.now c.self.invariant.0 c.self.invariant.1 c.requires.wire c.in-Nowhere.ensures
+    ∙ ap (λ notes. find notes (labels_of c.args.suffix.now)) c.self.view_is
+
+pub returns-in-Behind-clause-is : goal.returns-in-Behind-clause-is
+returns-in-Behind-clause-is g c =
+    let end = rw c.deref.ensures.value at (rw c.deref-2.ensures.value at c.in-Behind.ensures) in
+    found_behind c.self.inside.names.items c.self.inside.notes.items c.self.inside.firsts c.args.suffix.now c.in-Behind.number c.in-Behind.way c.self.invariant.0 c.self.invariant.1 c.requires.wire end
+    ∙ ap (λ notes. find notes (labels_of c.args.suffix.now)) c.self.view_is
