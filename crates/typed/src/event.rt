@@ -161,7 +161,7 @@ fn parse<A: Heap>(alloc: A, event: &Event<A>) -> Result<Option<Parsed<A>>, Starv
             socket,
             from,
             ref bytes,
-        } => return Ok(parse_datagram(alloc, moment, socket, from, bytes.as_slice())?),
+        } => return parse_datagram(alloc, moment, socket, from, bytes.as_slice()),
         Event::TcpReply {
             moment,
             number,
