@@ -1,19 +1,23 @@
 -- What becomes of queries that ask for admission.
-use Rattle.std.specs.Prelude.{◌≡◌, ℕ, Option, None, List}
+use Rattle.std.specs.Prelude.{◌≡◌, ℕ, Bool, true, false, cond, ◌&&◌, nat_le, nat_lt, Option, Some, None, List, length}
+use Rattle.std.specs.Bool.{MatchBool}
+use Rattle.core.specs.declared.hash.sip.DefaultHasher.{DefaultHasher}
 use Rattle.causes.specs.declared.cause.Cause.{Cause}
 use Rattle.runs.specs.States.{Action as ActionSpec, Reply}
 use Rattle.events.specs.declared.action.Action.{Action}
 use Rattle.events.specs.declared.action.Action.TheVariants as said
-use Rattle.admission.specs.States.{State}
-use Rattle.admission.specs.Moves.{Admits}
+use Rattle.admission.specs.States.{State, of_key}
+use Rattle.admission.specs.Moves.{Admits, is_entering, opened, left}
 use Rattle.admission.specs.declared.queries.Decision.{Decision}
 use Rattle.admission.specs.declared.queries.Decision.TheVariants as decision
 use Rattle.front.specs.declared.queries.Request.TheVariants as request
 use Rattle.typed.specs.Events.{Parsed}
 use Rattle.typed.specs.Events as typed
 use Rattle.server.specs.Askers.{admission_client}
+use Rattle.server.specs.Keys.{query_key}
 use Rattle.server.specs.declared.passage.Standing.{Standing}
-use Rattle.server.specs.declared.passage.Standing.TheVariants.{Free, Asks}
+use Rattle.server.specs.declared.passage.Standing.TheVariants.{Free, Asks, Admitted}
+use Rattle.server.specs.declared.passage.Standing.TheVariants as standing
 use Rattle.server.specs.declared.shared_admission.Question.{Question}
 use Rattle.server.specs.declared.query.Asker.{Asker}
 use Rattle.server.specs.declared.query.Query.{Query}
@@ -32,16 +36,69 @@ pub record IsDecided (before : State Query) (key client moment : ℕ) (query : Q
   pub admits : Admits before key client moment query decision after
   pub becomes : IsEntry decision entry
 
--- A query asks for admission, under the number of its client. What is no query needs none.
-abbrev pub IsStanding : Parsed → Standing → Type 0
-IsStanding (typed.Client now client way (request.Query query)) standing =
-    (question : Question) × (standing ≡ Asks question) × (question.client ≡ admission_client way client)
-IsStanding (typed.Client now client way request.Drop) standing = standing ≡ Free
-IsStanding (typed.Client now client way (request.Refuse why start echo)) standing = standing ≡ Free
-IsStanding (typed.Datagram now sock from reading) standing = standing ≡ Free
-IsStanding (typed.TcpReply now number reading) standing = standing ≡ Free
-IsStanding (typed.TcpFailed now number) standing = standing ≡ Free
-IsStanding (typed.Tick now) standing = standing ≡ Free
+-- A query asks for admission, under the key of what it asks and the number of its client. What is no query needs none.
+abbrev pub IsStanding : DefaultHasher → Parsed → Standing → Type 0
+IsStanding start (typed.Client now client way (request.Query query)) standing =
+    standing ≡ Asks (record { key = query_key start query; client = admission_client way client })
+IsStanding start (typed.Client now client way request.Drop) standing = standing ≡ Free
+IsStanding start (typed.Client now client way (request.Refuse why begins echo)) standing = standing ≡ Free
+IsStanding start (typed.Datagram now sock from reading) standing = standing ≡ Free
+IsStanding start (typed.TcpReply now number reading) standing = standing ≡ Free
+IsStanding start (typed.TcpFailed now number) standing = standing ≡ Free
+IsStanding start (typed.Tick now) standing = standing ≡ Free
+
+-- A question that was admitted before stands so. Of any other message that says what was read of it.
+abbrev pub StandsAs : DefaultHasher → Option Question → Parsed → Standing → Type 0
+StandsAs start (Some question) parsed standing = standing ≡ Admitted question
+StandsAs start None parsed standing = IsStanding start parsed standing
+
+-- Whether the step of a message that stands so is taken now.
+abbrev pub is_passed : Standing → Bool
+is_passed Free = true
+is_passed (Admitted question) = true
+is_passed (Asks question) = false
+is_passed standing.Held = false
+is_passed standing.Dropped = false
+
+-- Whether a query of these bytes, with this key, has over 512 of them and would have to wait.
+abbrev pub is_too_long : State Query → ℕ → List ℕ → Bool
+is_too_long d key bytes = nat_lt 512 (length bytes) && nat_le d.limits.equal (of_key key d)
+
+-- How a question stands by the entry that it had.
+abbrev pub standing_by : Question → Entry → Standing
+standing_by question (In query) = Admitted question
+standing_by question Held = standing.Held
+standing_by question Dropped = standing.Dropped
+
+-- The query that is still here by this entry.
+abbrev pub query_by : Entry → Option Query
+query_by (In query) = Some query
+query_by Held = None
+query_by Dropped = None
+
+-- Admission decided so on a question that came at this moment in that query.
+pub record IsAsked (before : State Query) (question : Question) (moment : ℕ) (query : Query) (stands : Standing) (here : Option Query) (after : State Query) : Type 0 where
+  pub entry : Entry
+  pub decided : IsDecided before question.key question.client moment query entry after
+  pub stands_so : stands ≡ standing_by question entry
+  pub here_so : here ≡ query_by entry
+
+-- A question too long to be held is dropped, and admission does not hear of it. On any other it decides.
+abbrev pub StandsBy : State Query → Question → ℕ → Query → Standing → Option Query → State Query → Type 0
+StandsBy before question moment query stands here after =
+    MatchBool (is_too_long before question.key query.bytes)
+    ((stands ≡ standing.Dropped) × (here ≡ Some query) × (after ≡ before))
+    (IsAsked before question moment query stands here after)
+
+-- What admission is told of a message whose step was taken, and asked a server or not: a question that asked one is
+-- open since that moment, and any other leaves.
+abbrev pub told : Standing → Bool → ℕ → State Query → State Query
+told (Admitted question) asks moment d =
+    cond asks (opened question.key question.client moment d) (left (is_entering question.key question.client) d)
+told Free asks moment d = d
+told (Asks question) asks moment d = d
+told standing.Held asks moment d = d
+told standing.Dropped asks moment d = d
 
 -- What is let in is the query that came.
 abbrev pub IsAdmitted : Query → Entry → Type 0

@@ -1,18 +1,26 @@
 -- A client's message on its way through the machine: what was read of it, and what a step on that gave.
-use Rattle.std.specs.Prelude.{◌≡◌, ℕ, Result, Option, Some, List, IfSome, option_map}
+use Rattle.std.specs.Prelude.{◌≡◌, ℕ, Bool, true, false, Result, Option, Some, None, List, IfSome, MatchOption, option_map}
 use Rattle.memory.specs.declared.Starved.{Starved}
 use Rattle.book.specs.Books.{TicketView}
 use Rattle.pool.specs.Closings.{EntersAndGives}
 use Rattle.wire.specs.declared.via.Via.{Via}
 use Rattle.runs.specs.States.{Event, Action, Client}
 use Rattle.typed.specs.Events.{Parsed, ReadAs}
+use Rattle.typed.specs.declared.action.TypedAction.{TypedAction}
+use Rattle.typed.specs.declared.action.TypedAction.TheVariants.{Reply, Refusal, Ask}
 use Rattle.typed.specs.declared.action.TypedActions.{TypedActions}
+use Rattle.admission.specs.States.{State}
+use Rattle.server.specs.declared.passage.Standing.{Standing}
+use Rattle.server.specs.declared.passage.Standing.TheVariants.{Free, Asks, Admitted, Held, Dropped}
 use Rattle.server.specs.declared.query.Query.{Query}
+use Rattle.server.specs.declared.shared_admission.Question.{Question}
+use Rattle.server.specs.Entries.{StandsBy}
 use Rattle.server.specs.Steps.{IsPut}
 
--- What contracts see of a message under way: the event that it is, unless it waits in admission; what was read of that;
--- and what its step gave, where it was taken.
+-- What contracts see of a message under way: how it stands in admission; the event that it is, unless it waits there;
+-- what was read of that; and what its step gave, where it was taken.
 pub record PassageView (O : Type 0) : Type 0 where
+  pub standing : Standing
   pub event : Option Event
   pub parsed : Parsed
   pub given : Option O
@@ -25,9 +33,50 @@ event_of moment query = Client moment query.asker.client query.asker.way query.b
 abbrev pub IsClients : Event → Type 0
 IsClients e = (now client : ℕ) × (way : Via) × (bytes : List ℕ) × (e ≡ Client now client way bytes)
 
--- The view of these four.
-abbrev pub passage_view : {O : Type 0} → ℕ → Option Query → Parsed → Option O → PassageView O
-passage_view moment query parsed given = record { event = option_map (event_of moment) query; parsed = parsed; given = given }
+-- The view of these five.
+abbrev pub passage_view : {O : Type 0} → Standing → ℕ → Option Query → Parsed → Option O → PassageView O
+passage_view standing moment query parsed given =
+    record { standing = standing; event = option_map (event_of moment) query; parsed = parsed; given = given }
+
+-- The event is that of this query.
+abbrev pub IsOfQuery : Option Event → Query → Type 0
+IsOfQuery event query = (moment : ℕ) × (event ≡ Some (event_of moment query))
+
+abbrev pub is_ask : {A : Type 0} → TypedAction A → Bool
+is_ask (Ask port ask) = true
+is_ask (Reply client_query outcome) = false
+is_ask (Refusal client way refusal start echo) = false
+
+abbrev pub asks_first : {A : Type 0} → Option (TypedAction A) → Bool
+asks_first None = false
+asks_first (Some action) = is_ask action
+
+-- Whether what a step gave asks a server.
+abbrev pub asks_server : {A : Type 0} → Option (TypedActions A) → Bool
+asks_server None = false
+asks_server (Some given) = asks_first given.first
+
+-- A question that asks for admission, and whose query came so, stands from now on as admission decides.
+pub record IsEntered {O : Type 0} (before : State Query) (question : Question) (p q : PassageView O) (after : State Query) : Type 0 where
+  pub moment : ℕ
+  pub query : Query
+  pub came : p.event ≡ Some (event_of moment query)
+  pub here : Option Query
+  pub stands : StandsBy before question moment query q.standing here after
+  pub becomes : q ≡ record p { standing = q.standing; event = option_map (event_of moment) here }
+
+module _ {O : Type 0} where
+  abbrev pub IsUnchanged : State Query → PassageView O → PassageView O → State Query → Type 0
+  IsUnchanged before p q after = (q ≡ p) × (after ≡ before)
+
+  -- What asks is decided on, unless its query has gone, and all else is left as it is.
+  abbrev pub Enters : Standing → State Query → PassageView O → PassageView O → State Query → Type 0
+  Enters (Asks question) before p q after =
+      MatchOption p.event (IsUnchanged before p q after) (λ event. IsEntered before question p q after)
+  Enters Free before p q after = IsUnchanged before p q after
+  Enters (Admitted question) before p q after = IsUnchanged before p q after
+  Enters Held before p q after = IsUnchanged before p q after
+  Enters Dropped before p q after = IsUnchanged before p q after
 
 module _ {S O : Type 0} (moves : S → Parsed → Result O Starved → S → Type 0) (begins : S → Type 0) where
   -- The newest step of some history of the machine, on what was read, gave this.

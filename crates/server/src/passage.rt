@@ -1,12 +1,13 @@
 //! Clients' messages on their way through the machine: each is read before the lock is taken, its step is taken while
 //! it is held, and what that gives is written behind it.
-ghost use Rattle.std.specs.Prelude.{◌≡◌, Some, None, IfOk, IfSome, IfNone, OnOk, IfErr};
+ghost use Rattle.std.specs.Prelude.{◌≡◌, Some, None, IfOk, IfSome, IfNone, MatchOption, OnOk, IfErr};
 ghost use Rattle.std.specs.Bool.{OnTrue};
 ghost use Rattle.runs.specs.States.{Client, told_moment};
 ghost use Rattle.events.specs.Views.{event_view};
 ghost use Rattle.typed.specs.Events.{ReadAs};
 ghost use Rattle.pool.specs.Closings.{IsEventRefused};
-ghost use Rattle.server.specs.Passages.{IsAnswered, IsClients, TakesStep};
+ghost use Rattle.server.specs.Entries.{StandsAs, StandsBy, is_passed, is_too_long, told};
+ghost use Rattle.server.specs.Passages.{Enters, IsAnswered, IsClients, IsOfQuery, TakesStep, asks_server};
 
 use crate::query::{Asker, Query};
 use crate::shared_admission::{Entry, Question, SharedAdmission, ask_for};
@@ -40,7 +41,36 @@ pub(crate) enum Standing {
     Dropped,
 }
 
-/// A client's message that was read, and what its step gave. Contracts see the event, unless it waits in admission.
+// Whether a query is too long to be held where it would have to wait.
+fn is_too_long(admission: &Admission<Query>, key: u64, query: &Query) -> bool
+    ensures { result ≡ is_too_long admission.now key query.now.bytes }
+{
+    query.bytes.as_slice().len() > MOST_HELD_BYTES && admission.is_crowded(key)
+}
+
+// How a question stands from now on that came at this moment in that query, and the query where it is still here. A
+// long one does not wait, since it would be held whole.
+fn stand(
+    admission: &mut Admission<Query>,
+    question: Question,
+    moment: u64,
+    query: Query,
+) -> (Standing, Option<Query>)
+    ensures stands { StandsBy admission.old question moment query result.0 result.1 admission.new }
+    ensures here { OnTrue (is_passed result.0) (result.1 ≡ Some query) }
+{
+    if is_too_long(admission, question.key, &query) {
+        return (Standing::Dropped, Some(query));
+    }
+    match ask_for(admission, question, moment, query) {
+        Entry::In(query) => (Standing::Admitted(question), Some(query)),
+        Entry::Held => (Standing::Held, None),
+        Entry::Dropped => (Standing::Dropped, None),
+    }
+}
+
+/// A client's message that was read, and what its step gave. Contracts see how it stands in admission, and the event,
+/// unless it waits there.
 #[derive(Drop)]
 pub(crate) struct Passage<M: Machine<Event = TypedEvent, Out = TypedActions>> {
     /// How it stands in admission.
@@ -62,9 +92,9 @@ impl<M: Machine<Event = TypedEvent, Out = TypedActions>> Model for Passage<M> {
 
     ghost Value = { PassageView (TypedActions Global) };
 
-    ghost view = { λ p. passage_view p.moment p.query p.parsed p.given };
+    ghost view = { λ p. passage_view p.standing p.moment p.query p.parsed p.given };
 
-    ghost invariant = { λ p. IsOnItsWay M.moves M.begins (passage_view p.moment p.query p.parsed p.given) };
+    ghost invariant = { λ p. IsOnItsWay M.moves M.begins (passage_view p.standing p.moment p.query p.parsed p.given) };
 }
 
 impl<M: Machine<Event = TypedEvent, Out = TypedActions>> Passage<M> {
@@ -78,7 +108,8 @@ impl<M: Machine<Event = TypedEvent, Out = TypedActions>> Passage<M> {
         admitted: Option<Question>,
         came: Option<Arrival>,
     ) -> Result<Passage<M>, Starved>
-        ensures { IfOk result (λ p. p.event ≡ Some (Client moment query.asker.client query.asker.way query.bytes)) }
+        ensures event { IfOk result (λ p. p.event ≡ Some (Client moment query.asker.client query.asker.way query.bytes)) }
+        ensures standing { IfOk result (λ p. StandsAs admission.now.start admitted p.parsed p.standing) }
     {
         let event = query.into_event(moment);
         match read_event(alloc, &event) {
@@ -102,7 +133,9 @@ impl<M: Machine<Event = TypedEvent, Out = TypedActions>> Passage<M> {
     fn of(event: Event, parsed: TypedEvent, standing: Standing, came: Option<Arrival>) -> Passage<M>
         requires read { ReadAs (event_view event) parsed }
         requires client { IsClients (event_view event) }
-        ensures { result.event ≡ Some (event_view event) }
+        ensures event { result.event ≡ Some (event_view event) }
+        ensures parsed { result.parsed ≡ parsed }
+        ensures standing { result.standing ≡ standing }
     {
         match event {
             Event::Client {
@@ -133,37 +166,20 @@ impl<M: Machine<Event = TypedEvent, Out = TypedActions>> Passage<M> {
         self.moment
     }
 
-    /// Asks for admission, where that is still to be done; whether its step is to be taken now. A long message does not
-    /// wait there, since it would be held whole.
+    /// Asks for admission, where that is still to be done; whether its step is to be taken now.
     pub fn enter(&mut self, admission: &mut Admission<Query>) -> bool
-        ensures { OnTrue result (self.new ≡ self.old) }
+        ensures passed { result ≡ is_passed self.new.standing }
+        ensures here { OnTrue result (self.new ≡ record self.old { standing = self.new.standing }) }
+        ensures asked { Enters self.old.standing admission.old self.old self.new admission.new }
     {
-        let Standing::Asks(question) = self.standing else {
-            return matches!(self.standing, Standing::Free | Standing::Admitted(_));
-        };
-        let Some(query) = self.query.take() else {
-            return false;
-        };
-        if query.bytes.as_slice().len() > MOST_HELD_BYTES && admission.is_crowded(question.key) {
-            self.query = Some(query);
-            self.standing = Standing::Dropped;
-            return false;
+        if let Standing::Asks(question) = self.standing
+            && let Some(query) = self.query.take()
+        {
+            let (standing, query) = stand(admission, question, self.moment, query);
+            self.standing = standing;
+            self.query = query;
         }
-        match ask_for(admission, question, self.moment, query) {
-            Entry::In(query) => {
-                self.query = Some(query);
-                self.standing = Standing::Admitted(question);
-                true
-            }
-            Entry::Held => {
-                self.standing = Standing::Held;
-                false
-            }
-            Entry::Dropped => {
-                self.standing = Standing::Dropped;
-                false
-            }
-        }
+        matches!(self.standing, Standing::Free | Standing::Admitted(_))
     }
 
     /// The machine takes its step.
@@ -181,7 +197,9 @@ impl<M: Machine<Event = TypedEvent, Out = TypedActions>> Passage<M> {
     }
 
     /// Tells admission what the step gave: the query is open where a server is asked, and else it is settled.
-    pub fn settle(&self, admission: &mut Admission<Query>) {
+    pub fn settle(&self, admission: &mut Admission<Query>)
+        ensures { IfSome self.now.event (λ e. admission.new ≡ told self.now.standing (asks_server self.now.given) (told_moment e) admission.old) }
+    {
         if let Standing::Admitted(Question { key, client }) = self.standing {
             if self.asks() {
                 admission.opened(key, client, self.moment);
@@ -192,7 +210,9 @@ impl<M: Machine<Event = TypedEvent, Out = TypedActions>> Passage<M> {
     }
 
     // Whether its step asks a server.
-    fn asks(&self) -> bool {
+    fn asks(&self) -> bool
+        ensures { result ≡ asks_server self.now.given }
+    {
         match &self.given {
             Some(given) => matches!(given.first, Some(TypedAction::Ask { .. })),
             None => false,
@@ -211,7 +231,9 @@ impl<M: Machine<Event = TypedEvent, Out = TypedActions>> Passage<M> {
     }
 
     /// What came, if it does not wait in admission.
-    pub fn into_query(self) -> Option<Query> {
+    pub fn into_query(self) -> Option<Query>
+        ensures { MatchOption result (self.event ≡ None) (IsOfQuery self.event) }
+    {
         let Passage {
             standing: _,
             came: _,

@@ -1,8 +1,10 @@
 //! Admission of clients' questions to the resolver: of equal ones few are under way at a time, the others wait.
-ghost use Rattle.std.specs.Prelude.{◌≡◌, ◌≤◌, IfSome, length};
+ghost use Rattle.std.specs.Prelude.{◌≡◌, ◌≤◌, IfSome, length, map};
+ghost use Rattle.std.specs.Char.{to_ascii_lowercase};
 ghost use Rattle.events.specs.Views.{action_view};
 ghost use Rattle.typed.specs.Views.{parsed_view};
 ghost use Rattle.server.specs.Askers.{admission_client};
+ghost use Rattle.server.specs.Keys.{key_of, query_key, IsKeyIn};
 ghost use Rattle.server.specs.Entries.{IsEntry, IsAdmitted, IsDecided, IsStanding, failure_copy};
 
 use crate::passage::Standing;
@@ -111,33 +113,49 @@ impl SharedAdmission {
     }
 
     // A hash of a question: of its name in lower case, of its type and class as they stand in a message, and of RD.
-    fn key_of(&self, name: &[u8], type_and_class: [u8; TYPE_AND_CLASS], recursion: u8) -> u64 {
-        let [high, low, class_high, class_low] = type_and_class;
+    fn key_of(&self, name: &[u8], type_and_class: [u8; TYPE_AND_CLASS], recursion: u8) -> u64
+        ensures { result ≡ key_of self.now.start name.now type_and_class recursion }
+    {
         let mut hasher = self.start;
         hasher.write(name);
-        hasher.write(&[high, low, class_high, class_low, recursion]);
+        hasher.write(&type_and_class);
+        hasher.write(&[recursion]);
         hasher.finish()
+    }
+
+    // The same of a name in any letters. None where it is too long for a name.
+    fn key_of_letters(
+        &self,
+        letters: &[u8],
+        type_and_class: [u8; TYPE_AND_CLASS],
+        recursion: u8,
+    ) -> Option<u64>
+        ensures { IfSome result (λ key. key ≡ key_of self.now.start (map to_ascii_lowercase letters.now) type_and_class recursion) }
+    {
+        let mut room = [0u8; LONGEST_NAME];
+        let name = room.get_mut(..letters.len())?;
+        name.copy_from_slice(letters);
+        name.make_ascii_lowercase();
+        Some(self.key_of(&*name, type_and_class, recursion))
     }
 
     // The same of the question of a message, whose name is not compressed. None where it has no such question.
     fn key_in(&self, message: &[u8]) -> Option<u64>
-        ensures { IfSome result (λ key. 17 ≤ length message.now) }
+        ensures room { IfSome result (λ key. 17 ≤ length message.now) }
+        ensures key { IfSome result (IsKeyIn self.now.start message.now) }
     {
         let end = question_end(message)?;
-        let question = message.get(HEADER..end)?;
-        let mut room = [0u8; LONGEST_NAME];
-        let name = room.get_mut(..question.len() - TYPE_AND_CLASS)?;
-        name.copy_from_slice(&question[..question.len() - TYPE_AND_CLASS]);
-        name.make_ascii_lowercase();
         let mut type_and_class = [0u8; TYPE_AND_CLASS];
-        type_and_class.copy_from_slice(&question[question.len() - TYPE_AND_CLASS..]);
-        Some(self.key_of(&*name, type_and_class, message.get(2)? & 1))
+        type_and_class.copy_from_slice(&message[end - TYPE_AND_CLASS..end]);
+        let letters = &message[HEADER..end - TYPE_AND_CLASS];
+        self.key_of_letters(letters, type_and_class, message[2] & 1)
     }
 
     // What a query asks that this client sent. However its bytes write the name, equal questions have one key, that of
     // their replies.
     fn question(&self, asker: Asker, query: &front::Query) -> Question
-        ensures { result.client ≡ admission_client asker.way asker.client }
+        ensures key { result.key ≡ query_key self.now.start query.now }
+        ensures client { result.client ≡ admission_client asker.way asker.client }
     {
         let [high, low] = query.kind.number().to_be_bytes();
         let key = self.key_of(
@@ -153,7 +171,7 @@ impl SharedAdmission {
 
     /// How a message that was read stands in admission: each query asks for it, and nothing else does.
     pub fn standing_of(&self, read: &Parsed) -> Standing
-        ensures { IsStanding (parsed_view read.now) result }
+        ensures { IsStanding self.now.start (parsed_view read.now) result }
     {
         match read {
             Parsed::Client {
