@@ -11,3 +11,4 @@ pub mod Keys
 pub mod Entries
 pub mod Tallies
 pub mod Failures
+pub mod Crowds

@@ -30,6 +30,7 @@ mod batch;
 mod client_stream;
 mod clock;
 mod context;
+mod crowd;
 mod datagrams;
 mod ends;
 mod fault;

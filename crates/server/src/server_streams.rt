@@ -3,6 +3,7 @@ ghost use Rattle.std.specs.Prelude.{◌≡◌, ◌<◌, ◌^◌, IfOk, IfSome, l
 ghost use Rattle.server.specs.Failures.{ask_fault};
 
 use crate::context::{Bounds, Common, Context};
+use crate::crowd::{Crowd, Turn, turn_by};
 use crate::ends::{SLICE_MS, address_of, lacks_descriptors};
 use crate::framed_stream::{FramedStream, MOST_FRAME_BYTES, StreamFault};
 use crate::outbox::StreamAsk;
@@ -25,9 +26,6 @@ use typed::{TypedActions, TypedEvent};
 
 // How many asks are under way for each worker of the server's file.
 const ASKS_OF_A_WORKER: usize = 16;
-
-// How many asks are under way to one server, at most.
-const ASKS_OF_A_SERVER: usize = 32;
 
 // How many sockets are told of at once.
 const EVENTS: usize = 256;
@@ -65,6 +63,30 @@ impl Talk {
     }
 }
 
+// The asks that are under way, and those that wait for a place at their servers.
+#[derive(Drop)]
+struct Asking {
+    talks: Slab<Talk>,
+    crowd: Crowd,
+}
+
+impl Asking {
+    // What becomes of an ask now.
+    fn turn_of(&self, ask: &StreamAsk, now: u64) -> Turn {
+        let server = ask.to.address;
+        let at_server = self
+            .talks
+            .iter()
+            .filter(|(_, talk)| talk.server == server)
+            .count();
+        turn_by(
+            now.saturating_sub(ask.moment),
+            at_server,
+            self.crowd.waiting(),
+        )
+    }
+}
+
 // Why an ask has no reply whose stream failed so.
 fn ask_fault(fault: StreamFault) -> AskFault
     ensures { result ≡ ask_fault fault }
@@ -89,15 +111,18 @@ pub(crate) fn ask_servers<
         return;
     };
     let mut poll = servers.poll.lock(rt);
-    let mut talks = Slab::new(context.common.alloc);
+    let mut asking = Asking {
+        talks: Slab::new(context.common.alloc),
+        crowd: Crowd::new(context.common.alloc),
+    };
     let mut buffer = [0u8; MOST_FRAME_BYTES];
     let mut checked = 0;
     for _ in rt.forever() {
         if context.common.is_over() {
             break;
         }
-        await_talks(context.common, &mut poll, &mut events, &mut talks);
-        checked = advance_all(rt, context, worker, &mut talks, checked, &mut buffer);
+        await_talks(context.common, &mut poll, &mut events, &mut asking.talks);
+        checked = advance_all(rt, context, worker, &mut asking, checked, &mut buffer);
     }
 }
 
@@ -121,15 +146,18 @@ fn advance_all<
     rt: &R,
     context: &Context<'_, M, L>,
     worker: &mut Worker<M, L>,
-    talks: &mut Slab<Talk>,
+    asking: &mut Asking,
     checked: u64,
     buffer: &mut [u8],
 ) -> u64 {
-    begin_all(rt, context, worker, talks);
+    begin_all(rt, context, worker, asking);
     let now = context.common.moment(rt);
     let check = now.saturating_sub(checked) >= CHECK_MS;
-    for key in 0..talks.capacity() {
-        advance(rt, context, worker, talks, key, check, buffer);
+    for key in 0..asking.talks.capacity() {
+        advance(rt, context, worker, asking, key, check, buffer);
+    }
+    if check {
+        fail_late(rt, context, worker, &mut asking.crowd, now);
     }
     if check { now } else { checked }
 }
@@ -163,42 +191,102 @@ fn begin_all<M: Machine<Event = TypedEvent, Out = TypedActions>, L: Ledger, R: N
     rt: &R,
     context: &Context<'_, M, L>,
     worker: &mut Worker<M, L>,
-    talks: &mut Slab<Talk>,
+    asking: &mut Asking,
 ) {
     let most = most_talks(context.common.bounds);
     for _ in 0..most {
-        if talks.len() >= most || !begin_next(rt, context, worker, talks) {
+        if asking.talks.len() >= most {
+            return;
+        }
+        let Ok(ask) = context.common.asks.try_recv(rt) else {
+            return;
+        };
+        take_up(rt, context, worker, asking, ask);
+    }
+}
+
+// A place is free at that server: the first that waits for it begins, and those before it that can't have failed.
+fn begin_waiting<
+    M: Machine<Event = TypedEvent, Out = TypedActions>,
+    L: Ledger,
+    R: Net + Wait + Clock,
+>(
+    rt: &R,
+    context: &Context<'_, M, L>,
+    worker: &mut Worker<M, L>,
+    asking: &mut Asking,
+    server: Addr,
+) {
+    for _ in 0..asking.crowd.waiting() {
+        let Some(ask) = asking.crowd.next(server) else {
+            return;
+        };
+        if take_up(rt, context, worker, asking, ask) {
             return;
         }
     }
 }
 
-// Begins the next ask that was handed on; whether there is one.
-fn begin_next<M: Machine<Event = TypedEvent, Out = TypedActions>, L: Ledger, R: Net + Wait + Clock>(
+// Takes up an ask; false where it has failed.
+fn take_up<M: Machine<Event = TypedEvent, Out = TypedActions>, L: Ledger, R: Net + Wait + Clock>(
     rt: &R,
     context: &Context<'_, M, L>,
     worker: &mut Worker<M, L>,
-    talks: &mut Slab<Talk>,
+    asking: &mut Asking,
+    ask: StreamAsk,
 ) -> bool {
-    match context.common.asks.try_recv(rt) {
-        Ok(ask) => {
-            let number = ask.number;
-            let now = context.common.moment(rt);
+    let number = ask.number;
+    match begin_or_keep(rt, context.common, asking, ask) {
+        Ok(()) => true,
+        Err(fault) => {
+            fail(rt, context, worker, number, fault);
+            false
+        }
+    }
+}
+
+// Begins an ask, or keeps it until its server has a place.
+fn begin_or_keep<R: Net + Clock>(
+    rt: &R,
+    common: &Common<'_>,
+    asking: &mut Asking,
+    ask: StreamAsk,
+) -> Result<(), AskFault> {
+    match asking.turn_of(&ask, common.moment(rt)) {
+        Turn::Begins => {
             let begun = begin(
                 rt,
-                context.common.alloc,
-                &context.common.ends.servers,
-                talks,
+                common.alloc,
+                &common.ends.servers,
+                &mut asking.talks,
                 &ask,
-                now,
             );
             drop(ask);
-            if let Err(fault) = begun {
-                fail(rt, context, worker, number, fault);
-            }
-            true
+            begun
         }
-        Err(_) => false,
+        Turn::Waits => asking.crowd.keep(ask),
+        Turn::Fails(fault) => {
+            drop(ask);
+            Err(fault)
+        }
+    }
+}
+
+// Those that waited for a place until their time was over have failed.
+fn fail_late<M: Machine<Event = TypedEvent, Out = TypedActions>, L: Ledger, R: Wait + Clock>(
+    rt: &R,
+    context: &Context<'_, M, L>,
+    worker: &mut Worker<M, L>,
+    crowd: &mut Crowd,
+    now: u64,
+) {
+    for _ in 0..crowd.waiting() {
+        let Some(ask) = crowd.late(now) else {
+            return;
+        };
+        let number = ask.number;
+        drop(ask);
+        fail(rt, context, worker, number, AskFault::Silent);
     }
 }
 
@@ -221,33 +309,14 @@ fn fail<M: Machine<Event = TypedEvent, Out = TypedActions>, L: Ledger, R: Wait +
     );
 }
 
-// Whether this ask may begin: its time is not over, and fewer than may be are at that server.
-fn may_begin(talks: &Slab<Talk>, ask: &StreamAsk, now: u64) -> Result<(), AskFault> {
-    if now.saturating_sub(ask.moment) >= TCP_WAIT_MS {
-        return Err(AskFault::Silent);
-    }
-    let server = ask.to.address;
-    let at_server = talks
-        .iter()
-        .filter(|(_, talk)| talk.server == server)
-        .count();
-    if at_server >= ASKS_OF_A_SERVER {
-        return Err(AskFault::Crowded);
-    }
-    Ok(())
-}
-
-// Begins to connect, and puts down what is to be written. Fails where the ask may not begin, and where there is no
-// stream.
+// Begins to connect, and puts down what is to be written. Fails where there is no stream.
 fn begin<R: Net>(
     rt: &R,
     alloc: Global,
     servers: &Poller,
     talks: &mut Slab<Talk>,
     ask: &StreamAsk,
-    now: u64,
 ) -> Result<(), AskFault> {
-    may_begin(talks, ask, now)?;
     match TcpStream::connect(rt, address_of(ask.to)) {
         Ok(stream) => watch(servers, talks, talk_of(alloc, ask, stream)),
         Err(error) if lacks_descriptors(&error) => Err(AskFault::Descriptors),
@@ -282,32 +351,33 @@ fn watch(servers: &Poller, talks: &mut Slab<Talk>, talk: Talk) -> Result<(), Ask
 }
 
 // Goes on with the talk of this key where there is something to do, and ends it where its reply has come, where it has
-// failed and, at a check, where its time is over, even if a part of its reply has just come.
-fn advance<M: Machine<Event = TypedEvent, Out = TypedActions>, L: Ledger, R: Wait + Clock>(
+// failed and, at a check, where its time is over, even if a part of its reply has just come. Then another ask of its
+// server begins.
+fn advance<M: Machine<Event = TypedEvent, Out = TypedActions>, L: Ledger, R: Net + Wait + Clock>(
     rt: &R,
     context: &Context<'_, M, L>,
     worker: &mut Worker<M, L>,
-    talks: &mut Slab<Talk>,
+    asking: &mut Asking,
     key: usize,
     check: bool,
     buffer: &mut [u8],
 ) {
-    let Some(talk) = talks.get_mut(key) else {
+    let Some(talk) = asking.talks.get_mut(key) else {
         return;
     };
-    let number = talk.number;
-    match end_of(rt, context.common, talk, check, buffer) {
-        Some(Ok(frame)) => {
-            talks.try_remove(key);
+    let (number, server) = (talk.number, talk.server);
+    let Some(end) = end_of(rt, context.common, talk, check, buffer) else {
+        return;
+    };
+    asking.talks.try_remove(key);
+    match end {
+        Ok(frame) => {
             let event = stream_reply_event(context.common.moment(rt), number, Some(frame));
             context.put(rt, worker, event);
         }
-        Some(Err(fault)) => {
-            talks.try_remove(key);
-            fail(rt, context, worker, number, fault);
-        }
-        None => {}
+        Err(fault) => fail(rt, context, worker, number, fault),
     }
+    begin_waiting(rt, context, worker, asking, server);
 }
 
 // How a talk ends, where it does.
