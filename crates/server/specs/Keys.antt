@@ -12,7 +12,7 @@ use Rattle.dispatch.specs.Questions.{HasQuestion}
 -- The hash of a name, of a type and a class as they stand in a message, and of RD, from the secret start.
 abbrev pub key_of : DefaultHasher → List ℕ → List ℕ → ℕ → ℕ
 key_of start name type_and_class recursion =
-    sip.finish (sip.write (sip.write (sip.write start name) type_and_class) (recursion ∷ []))
+    sip.finish (sip.write (sip.write start name) (type_and_class ++ recursion ∷ []))
 
 -- Of what a query asks, whose name is in lower case, and whose class is IN.
 abbrev pub query_key : {A : Type 0} → DefaultHasher → Query A → ℕ

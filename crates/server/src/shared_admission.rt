@@ -116,10 +116,10 @@ impl SharedAdmission {
     fn key_of(&self, name: &[u8], type_and_class: [u8; TYPE_AND_CLASS], recursion: u8) -> u64
         ensures { result ≡ key_of self.now.start name.now type_and_class recursion }
     {
+        let [high, low, class_high, class_low] = type_and_class;
         let mut hasher = self.start;
         hasher.write(name);
-        hasher.write(&type_and_class);
-        hasher.write(&[recursion]);
+        hasher.write(&[high, low, class_high, class_low, recursion]);
         hasher.finish()
     }
 
