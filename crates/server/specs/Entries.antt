@@ -1,7 +1,7 @@
 -- What becomes of queries that ask for admission.
 use Rattle.std.specs.Prelude.{◌≡◌, ℕ, Bool, true, false, cond, ◌&&◌, nat_le, nat_lt, Option, Some, None, List, length}
 use Rattle.std.specs.Bool.{MatchBool}
-use Rattle.core.specs.declared.hash.sip.DefaultHasher.{DefaultHasher}
+use Rattle.std.specs.declared.hash.DefaultHasher.{DefaultHasher}
 use Rattle.causes.specs.declared.cause.Cause.{Cause}
 use Rattle.runs.specs.States.{Action as ActionSpec, Reply}
 use Rattle.events.specs.declared.action.Action.{Action}

@@ -3,7 +3,7 @@ use Rattle.std.specs.Prelude.{◌≡◌, ℕ, ◌-◌, cond, List, [], ◌∷◌
 use Rattle.std.specs.Char.{to_ascii_lowercase}
 use Rattle.std.specs.Int.{w16, to_be_bytes}
 use Rattle.std.specs.Hash.DefaultHasher as sip
-use Rattle.core.specs.declared.hash.sip.DefaultHasher.{DefaultHasher}
+use Rattle.std.specs.declared.hash.DefaultHasher.{DefaultHasher}
 use Rattle.dname.specs.Labels.{wire}
 use Rattle.rdata.specs.Types.{type_number}
 use Rattle.front.specs.declared.queries.Query.{Query}
