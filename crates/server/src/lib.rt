@@ -17,7 +17,9 @@
 //! Promised: the loops are safe, and there is a ticket for each (`IsStaffed`). The actions of an event are those of one
 //! step of the machine on what was read of it, written (`IsPut`; `IsServed` of a client's message). Where replies and
 //! asks go, and which messages repeat an ask, is proved in `dispatch`, frames in `sockets`, the machine's one history
-//! in `book`, and which questions wait in `admission`.
+//! in `book`, and which questions wait in `admission`. Each query that was read asks for admission (`StandsAs`), under
+//! a key that is a hash of what it asks (`query_key`). It is passed, held or dropped as admission says (`Enters`), and
+//! one of over 512 bytes is never held.
 //! Not here: what the machine is (`engine`); lists of who may ask, and limits of how often.
 //!
 //! ```text
