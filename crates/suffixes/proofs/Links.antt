@@ -1,4 +1,4 @@
--- The ways of the notes: what is left of them when a note is put behind the others, and when it is put on its way.
+-- The paths of the notes: what is left of them when a note is put behind the others, and when it is put on its path.
 use Rattle.std.proofs.Common.{◌≡◌, ◌≢◌, ℕ, zero, suc, ◌+◌, ◌-◌, ◌<◌, ◌≤◌, List, [], ◌∷◌, ◌++◌, length, set, map, drop, get_or, refl, sym, ◌∙◌, ap, subst, arith, length-append, ◌⊎◌, inl, inr}
 use Rattle.std.proofs.lemmas.Bool.{cases_lt}
 use Rattle.std.proofs.lemmas.Bool.Decides.{eqb_tells}
@@ -11,7 +11,7 @@ use Rattle.std.proofs.Math.Seq.{get_or-append_seam, map-set_same}
 use Rattle.std.specs.Prelude.{replicate, slice_index}
 use Rattle.suffixes.specs.declared.earlier.Noted.{Noted}
 use Rattle.suffixes.specs.Kept.{kept_bytes, texts_of, note_of, notes_of, IsKept, AreKept, size_at}
-use Rattle.suffixes.specs.Ways.{way, next_of, passed, AreLinked, AreFirsts, IsReached, IsPut, ArePut, IsMissed, EndsAt, EndsBehind}
+use Rattle.suffixes.specs.Branches.{branch, next_of, passed, AreLinked, AreFirsts, IsReached, IsPut, ArePut, IsMissed, EndsAt, EndsBehind}
 
 abbrev pub nexts : List Noted → List (List ℕ)
 nexts notes = map (λ n. n.next) notes
@@ -47,46 +47,46 @@ empty_put firsts sizes zeros = record {
 pub none_put : ArePut [] [] (replicate 256 0)
 none_put = empty_put (replicate 256 0) (length-replicate {A = ℕ} 256 0) (zero_at 256)
 
--- ---- a way
+-- ---- a path
 
 next_some : (notes : List Noted) (n w : ℕ) → 0 < next_of notes n w → 0 < n
 next_some notes zero w l = absurd (omega arith)
 next_some notes (suc n) w l = omega arith
 
--- A way that has ended leads to no other note.
+-- A path that has ended leads to no other note.
 pub passed_ended : (notes : List Noted) (s : List ℕ) (first depth more : ℕ) → passed notes s first depth ≡ 0 → passed notes s first (depth + more) ≡ 0
 passed_ended notes s first depth zero e = let same : depth + 0 ≡ depth = omega arith in ap (passed notes s first) same ∙ e
 passed_ended notes s first depth (suc more) e =
     let same : depth + suc more ≡ suc (depth + more) = omega arith in
-    ap (passed notes s first) same ∙ ap (λ n. next_of notes n (way s (depth + more))) (passed_ended notes s first depth more e)
+    ap (passed notes s first) same ∙ ap (λ n. next_of notes n (branch s (depth + more))) (passed_ended notes s first depth more e)
 
--- A way leads to later and later notes.
+-- A path leads to later and later notes.
 pub passed_later : (notes : List Noted) (s : List ℕ) (first depth more : ℕ) → AreLinked notes → 0 < passed notes s first (depth + more)
     → passed notes s first depth ≤ passed notes s first (depth + more)
 passed_later notes s first depth zero h l = let same : depth + 0 ≡ depth = omega arith in let e = ap (passed notes s first) same in omega arith
 passed_later notes s first depth (suc more) h l =
     let same : depth + suc more ≡ suc (depth + more) = omega arith in
     let e = ap (passed notes s first) same in
-    let some : 0 < next_of notes (passed notes s first (depth + more)) (way s (depth + more)) = omega arith in
-    let before = passed_later notes s first depth more h (next_some notes (passed notes s first (depth + more)) (way s (depth + more)) some) in
-    let on = h.later (passed notes s first (depth + more)) (way s (depth + more)) some in
+    let some : 0 < next_of notes (passed notes s first (depth + more)) (branch s (depth + more)) = omega arith in
+    let before = passed_later notes s first depth more h (next_some notes (passed notes s first (depth + more)) (branch s (depth + more)) some) in
+    let on = h.later (passed notes s first (depth + more)) (branch s (depth + more)) some in
     omega arith
 
 passed_first : (notes : List Noted) (s : List ℕ) (first depth : ℕ) → 0 < passed notes s first depth → 0 < first
 passed_first notes s first zero l = l
-passed_first notes s first (suc depth) l = passed_first notes s first depth (next_some notes (passed notes s first depth) (way s depth) l)
+passed_first notes s first (suc depth) l = passed_first notes s first depth (next_some notes (passed notes s first depth) (branch s depth) l)
 
--- Ways on that there were are still there.
+-- Branches that there were are still there.
 abbrev pub AreMore : List Noted → List Noted → Type 0
 AreMore notes new = (n w : ℕ) → 0 < next_of notes n w → next_of new n w ≡ next_of notes n w
 
 passed_still : (notes new : List Noted) (s : List ℕ) (first depth : ℕ) → AreMore notes new → 0 < passed notes s first depth → passed new s first depth ≡ passed notes s first depth
 passed_still notes new s first zero h l = refl
 passed_still notes new s first (suc depth) h l =
-    let before = next_some notes (passed notes s first depth) (way s depth) l in
-    ap (λ n. next_of new n (way s depth)) (passed_still notes new s first depth h before) ∙ h (passed notes s first depth) (way s depth) l
+    let before = next_some notes (passed notes s first depth) (branch s depth) l in
+    ap (λ n. next_of new n (branch s depth)) (passed_still notes new s first depth h before) ∙ h (passed notes s first depth) (branch s depth) l
 
--- ---- a note put behind the others, from which no way leads on
+-- ---- a note put behind the others, whose branches lead to none
 
 next_behind : (notes : List Noted) (x : Noted) (n w : ℕ) → x.next ≡ replicate 4 0 → next_of (notes ++ x ∷ []) n w ≡ next_of notes n w
 next_behind notes x zero w e = refl
@@ -113,7 +113,7 @@ next_behind notes x (suc k) w e =
 passed_behind : (notes : List Noted) (x : Noted) (s : List ℕ) (first depth : ℕ) → x.next ≡ replicate 4 0 → passed (notes ++ x ∷ []) s first depth ≡ passed notes s first depth
 passed_behind notes x s first zero e = refl
 passed_behind notes x s first (suc depth) e =
-    ap (λ n. next_of (notes ++ x ∷ []) n (way s depth)) (passed_behind notes x s first depth e) ∙ next_behind notes x (passed notes s first depth) (way s depth) e
+    ap (λ n. next_of (notes ++ x ∷ []) n (branch s depth)) (passed_behind notes x s first depth e) ∙ next_behind notes x (passed notes s first depth) (branch s depth) e
 
 pub put_behind : (names : List ℕ) (notes new : List Noted) (firsts : List ℕ) (x : Noted) → ArePut names notes firsts → x.next ≡ replicate 4 0 → new ≡ notes ++ x ∷ []
     → IsPut (texts_of names new) new firsts (length notes)
@@ -155,9 +155,9 @@ put_behind names notes new firsts x h e put = subst (λ (l : List Noted). IsPut 
           stands = passed_behind notes x (get_or (texts_of names notes) k []) (slice_index firsts (length (get_or (texts_of names notes) k []))) r.depth e ∙ r.stands;
         }
 
--- ---- a note put on its way
+-- ---- a note put on its path
 
--- One more note is reached, and ways on and beginnings that there were are still there.
+-- One more note is reached, and branches and beginnings that there were are still there.
 one_more_put : (texts : List (List ℕ)) (notes new : List Noted) (firsts told : List ℕ) (count : ℕ) → AreLinked new → AreFirsts new told → AreMore notes new
     → ((z : ℕ) → 0 < slice_index firsts z → slice_index told z ≡ slice_index firsts z) → IsReached texts new told count (get_or texts count []) → IsPut texts notes firsts count
     → IsPut texts new told (suc count)
@@ -242,7 +242,7 @@ linked_first texts notes firsts suffix number some short last sized is h none =
       | inr same ↦ same
     ]) (subst (λ (b : List ℕ). IsReached texts notes told (length notes - 1) b) (sym last) reached) h)
 
--- What a way on leads to when one from a note is set.
+-- What a branch leads to when one at a note is set.
 next_set : (notes : List Noted) (k w number : ℕ) (y : Noted) → k < length notes → w < length (get_or (nexts notes) k []) → y.next ≡ set (get_or (nexts notes) k []) w number → (n v : ℕ)
     → ((n ≡ suc k) × ((v ≡ w) × (next_of (set notes k y) n v ≡ number))) ⊎ (next_of (set notes k y) n v ≡ next_of notes n v)
 next_set notes k w number y less few is zero v = inr refl
@@ -268,7 +268,7 @@ next_set_here notes k w number y less few is =
     ap (λ l. slice_index (get_or l k []) w) (map-set (λ (n : Noted). n.next) notes k y)
     ∙ (ap (λ l. slice_index l w) (get_or-set_at (nexts notes) k k y.next [] refl (omega arith) ∙ is) ∙ get_or-set_at (get_or (nexts notes) k []) w w number 0 refl few)
 
--- It stands behind the last note on its way.
+-- It stands behind the last note on its path.
 pub linked_behind : (names : List ℕ) (notes : List Noted) (firsts suffix : List ℕ) (n w number : ℕ) (y : Noted) → get_or (texts_of names notes) (length notes - 1) [] ≡ suffix
     → number ≡ length notes → kept_bytes names y ≡ get_or (texts_of names notes) (n - 1) [] → y.size ≡ size_at notes (n - 1)
     → w < length (get_or (nexts notes) (n - 1) []) → y.next ≡ set (get_or (nexts notes) (n - 1) []) w number
@@ -333,7 +333,7 @@ linked_behind names notes firsts suffix n w number y last is bytes sized few nex
 abbrev pub blank : Noted
 blank = record { start = 0; size = 0; place = 0; next = [] }
 
--- A note from which one way leads to another.
+-- A note of which one branch leads to another.
 abbrev pub led : Noted → ℕ → ℕ → Noted
 led x w number = record { start = x.start; size = x.size; place = x.place; next = set x.next w number }
 
@@ -346,7 +346,7 @@ led_put names notes firsts suffix n w kept last few h end =
     let less : n - 1 < length notes = omega arith in
     let nexts_are = get_or-map (λ (n : Noted). n.next) notes (n - 1) blank [] less in
     let is : IsKept names (get_or notes (n - 1) blank) = All-get_or (IsKept names) notes (n - 1) blank less kept in
-    let four = is.ways in
+    let four = is.branches in
     let size = ap length nexts_are in
     linked_behind names notes firsts suffix n w (length notes) (led (get_or notes (n - 1) blank) w (length notes)) last refl (sym (get_or-map (kept_bytes names) notes (n - 1) blank [] less))
     (sym (get_or-map (λ (n : Noted). n.size) notes (n - 1) blank 0 less)) (omega arith) (ap (λ l. set l w (length notes)) (sym nexts_are)) h end

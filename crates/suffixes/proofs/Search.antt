@@ -1,4 +1,4 @@
--- The way of a suffix, followed, and what is found where it ends.
+-- The path of a suffix, followed, and what is found where it ends.
 use Rattle.std.proofs.Common.{◌≡◌, ℕ, zero, suc, ◌+◌, ◌-◌, ◌<◌, ◌≤◌, Bool, true, false, ◌≢◌, List, [], ◌∷◌, length, map, get_or, Option, Some, None, refl, sym, ◌∙◌, ap, subst, arith, inl, inr}
 use Rattle.std.proofs.lemmas.Bool.{cases_lt}
 use Rattle.std.specs.Prelude.{if◌then◌else◌, IfSome, slice_index}
@@ -12,7 +12,7 @@ use Rattle.suffixes.specs.declared.earlier.End.{End}
 use Rattle.suffixes.specs.declared.earlier.End.TheVariants.{Nowhere, Behind, At}
 use Rattle.suffixes.specs.declared.earlier.Noted.{Noted}
 use Rattle.suffixes.specs.Kept.{kept_bytes, texts_of, note_of, notes_of, IsKept, AreKept}
-use Rattle.suffixes.specs.Ways.{way, next_of, passed, AreLinked, IsReached, ArePut, IsMissed, EndsAt, EndsBehind, IsEndOf}
+use Rattle.suffixes.specs.Branches.{branch, next_of, passed, AreLinked, IsReached, ArePut, IsMissed, EndsAt, EndsBehind, IsEndOf}
 use Rattle.suffixes.proofs.Links.{nexts, blank, passed_ended, passed_later}
 
 -- ---- all notes
@@ -42,16 +42,16 @@ first_has names (x ∷ xs) suffix (suc f) d kept w less here none =
     not_here names x xs suffix (All-head (IsKept names) x xs kept) w (none 0 (omega arith))
     ∙ first_has names xs suffix f d (All-tail (IsKept names) x xs kept) w (omega arith) here (λ k l. none (suc k) (omega arith))
 
--- ---- the way
+-- ---- the path
 
--- Where the way has come to so far behind a note, and nothing missed that has the suffix.
+-- Where the path has come to so far behind a note, and nothing missed that has the suffix.
 pub record IsBehind (notes : List Noted) (first : ℕ) (suffix : List ℕ) (number depth n w : ℕ) : Type 0 where
   pub before : ℕ
   pub next : depth ≡ suc before
   pub comes : passed notes suffix first before ≡ n
   pub some : 0 < n
   pub within : n ≤ length notes
-  pub takes : w ≡ way suffix before
+  pub takes : w ≡ branch suffix before
   pub leads : next_of notes n w ≡ number
 
 abbrev pub IsSoFar : List Noted → ℕ → List ℕ → ℕ → ℕ → End → Type 0
@@ -79,7 +79,7 @@ number_of : (number j : ℕ) → 0 < number → number ≡ suc j → number - 1 
 number_of number j some e = omega arith
 
 pub following_on : (names : List ℕ) (notes : List Noted) (first : ℕ) (suffix : List ℕ) (number depth w : ℕ) (end : End) → AreLinked notes
-    → Following (texts_of names notes) notes first suffix number depth end → 0 < number → kept_bytes names (get_or notes (number - 1) blank) ≢ suffix → w ≡ way suffix depth
+    → Following (texts_of names notes) notes first suffix number depth end → 0 < number → kept_bytes names (get_or notes (number - 1) blank) ≢ suffix → w ≡ branch suffix depth
     → Following (texts_of names notes) notes first suffix (slice_index (get_or notes (number - 1) blank).next w) (depth + 1) (Behind number w)
 following_on names notes first suffix number depth w end linked h some misses takes =
     let within = h.within in
@@ -152,10 +152,10 @@ following_ends texts notes first suffix number depth (At n) h none = absurd h.so
 
 -- ---- what is found
 
--- A note that has the suffix stands on its way, or an earlier one that has it.
-on_way : (names : List ℕ) (notes : List Noted) (firsts suffix : List ℕ) (k : ℕ) → ArePut names notes firsts → k < length notes → get_or (texts_of names notes) k [] ≡ suffix
+-- A note that has the suffix stands on its path, or an earlier one that has it.
+on_path : (names : List ℕ) (notes : List Noted) (firsts suffix : List ℕ) (k : ℕ) → ArePut names notes firsts → k < length notes → get_or (texts_of names notes) k [] ≡ suffix
     → IsReached (texts_of names notes) notes firsts k suffix
-on_way names notes firsts suffix k h less e = subst (λ (b : List ℕ). IsReached (texts_of names notes) notes firsts k b) e (h.reached k less)
+on_path names notes firsts suffix k h less e = subst (λ (b : List ℕ). IsReached (texts_of names notes) notes firsts k b) e (h.reached k less)
 
 pub found_at : (names : List ℕ) (notes : List Noted) (firsts suffix : List ℕ) (n : ℕ) (x : Noted) → AreKept names notes → ArePut names notes firsts → IsWire suffix
     → EndsAt (texts_of names notes) notes (slice_index firsts (length suffix)) suffix n → x ≡ get_or notes (n - 1) x → Some x.place ≡ find (notes_of names notes) (labels_of suffix)
@@ -163,7 +163,7 @@ found_at names notes firsts suffix n x kept h w end at =
     let some = end.some in
     let within = end.within in
     let none : (k : ℕ) → k < n - 1 → get_or (texts_of names notes) k [] ≡ suffix → ⊥ = λ k less e.
-    let r = on_way names notes firsts suffix k h (omega arith) e in
+    let r = on_path names notes firsts suffix k h (omega arith) e in
     elim (cases_lt r.depth end.depth) [
       | inl before ↦ end.missed r.depth r.index before r.stands r.same
       | inr behind ↦ (
@@ -179,7 +179,7 @@ found_at names notes firsts suffix n x kept h w end at =
 pub found_nowhere : (names : List ℕ) (notes : List Noted) (firsts suffix : List ℕ) → AreKept names notes → ArePut names notes firsts → IsWire suffix → slice_index firsts (length suffix) ≡ 0
     → None ≡ find (notes_of names notes) (labels_of suffix)
 found_nowhere names notes firsts suffix kept h w none = sym (none_has names notes suffix kept w (λ k less e.
-    let r = on_way names notes firsts suffix k h less e in
+    let r = on_path names notes firsts suffix k h less e in
     let whole : 0 + r.depth ≡ r.depth = omega arith in
     let ended = sym (ap (passed notes suffix (slice_index firsts (length suffix))) whole) ∙ passed_ended notes suffix (slice_index firsts (length suffix)) 0 r.depth none in
     let stands = r.stands in
@@ -188,7 +188,7 @@ found_nowhere names notes firsts suffix kept h w none = sym (none_has names note
 pub found_behind : (names : List ℕ) (notes : List Noted) (firsts suffix : List ℕ) (n v : ℕ) → AreKept names notes → ArePut names notes firsts → IsWire suffix
     → EndsBehind (texts_of names notes) notes (slice_index firsts (length suffix)) suffix n v → None ≡ find (notes_of names notes) (labels_of suffix)
 found_behind names notes firsts suffix n v kept h w end = sym (none_has names notes suffix kept w (λ k less e.
-    let r = on_way names notes firsts suffix k h less e in
+    let r = on_path names notes firsts suffix k h less e in
     elim (cases_lt r.depth (suc end.depth)) [
       | inl before ↦ end.missed r.depth r.index before r.stands r.same
       | inr behind ↦ (

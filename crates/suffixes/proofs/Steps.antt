@@ -13,7 +13,7 @@ use Rattle.message_grammar.specs.Packing.{Note, find, noted}
 use Rattle.suffixes.specs.declared.earlier.Found.{Found}
 use Rattle.suffixes.specs.declared.earlier.Noted.{Noted}
 use Rattle.suffixes.specs.Kept.{kept_bytes, texts_of, note_of, notes_of, IsKept, AreKept}
-use Rattle.suffixes.specs.Ways.{IsPut, ArePut}
+use Rattle.suffixes.specs.Branches.{IsPut, ArePut}
 use Rattle.suffixes.specs.Longest.{one_more, here_or, longest, first_notes}
 
 pub name_is_wire : (name : List (List ℕ)) (w : List ℕ) → IsName name → w ≡ wire name → IsWire w
@@ -132,7 +132,7 @@ is_kept_longer names more n h =
       fits = omega (arith, length-append names more);
       wire = subst (λ (x : List ℕ). IsWire x) (sym (kept_longer names more n h.fits)) h.wire;
       reach = reach;
-      ways = h.ways;
+      branches = h.branches;
     }
 
 -- A name that is kept behind the others changes nothing of what was noted.
@@ -240,7 +240,7 @@ noting_on names old now new start written at i place rest label after n h s near
     let bytes = s.size in
     let next : place + 1 + length label ≡ place + (1 + length label) = omega arith in
     let kept : kept_bytes names n ≡ rest = kept_last names rest n h.last starts size in
-    let is : IsKept names n = record { fits = omega arith; wire = subst (λ (x : List ℕ). IsWire x) (sym kept) h.form; reach = omega arith; ways = four } in
+    let is : IsKept names n = record { fits = omega arith; wire = subst (λ (x : List ℕ). IsWire x) (sym kept) h.form; reach = omega arith; branches = four } in
     let note : Note = record { suffix = label ∷ labels_of after; place = place } in
     let later = first_notes (written - (i + 1)) (place + (1 + length label)) (labels_of after) in
     let step : first_notes (written - i) place (labels_of rest) ≡ note ∷ later =
@@ -309,7 +309,7 @@ texts_longer names more (n ∷ notes) h =
     let here = kept_longer names more n first.fits in
     λ i. here i ∷ texts_longer names more notes (All-tail (IsKept names) n notes h) i
 
--- A name that is kept behind the others leaves the notes on their ways.
+-- A name that is kept behind the others leaves the notes on their paths.
 pub put_longer : (names more all : List ℕ) (notes same : List Noted) (firsts : List ℕ) → all ≡ names ++ more → same ≡ notes → AreKept names notes → ArePut names notes firsts → ArePut all same firsts
 put_longer names more all notes same firsts e is kept h =
     subst (λ (l : List Noted). ArePut all l firsts) (sym is)

@@ -8,7 +8,7 @@ use Rattle.std.proofs.Math.ListN.{get_or-eq_default}
 use Rattle.std.specs.Prelude.{slice_index}
 use Rattle.suffixes.specs.declared.earlier.Noted.{Noted}
 use Rattle.suffixes.specs.Kept.{size_at}
-use Rattle.suffixes.specs.Ways.{AreFirsts, ArePut}
+use Rattle.suffixes.specs.Branches.{AreFirsts, ArePut}
 use Rattle.suffixes.proofs.Links.{empty_put}
 
 -- The sizes of the first `count` notes are set back, and the others stand as they were.

@@ -16,12 +16,12 @@ note_of names n = record { suffix = labels_of (kept_bytes names n); place = n.pl
 abbrev pub notes_of : List ℕ → List Noted → List Note
 notes_of names notes = map (note_of names) notes
 
--- An entry whose bytes are a suffix in wire form, at a place in a pointer's reach, with four ways on.
+-- An entry whose bytes are a suffix in wire form, at a place in a pointer's reach, with four branches.
 pub record IsKept (names : List ℕ) (n : Noted) : Type 0 where
   pub fits : n.start + n.size ≤ length names
   pub wire : IsWire (kept_bytes names n)
   pub reach : n.place < 16384
-  pub ways : length n.next ≡ 4
+  pub branches : length n.next ≡ 4
 
 abbrev pub AreKept : List ℕ → List Noted → Type 0
 AreKept names notes = All (IsKept names) notes

@@ -2,5 +2,5 @@
 pub mod Longest
 -- Kept: invariants of the code's values, and how contracts see them.
 pub mod Kept
--- Ways: where the notes of one size are found.
-pub mod Ways
+-- Branches: where the notes of one size are found.
+pub mod Branches

@@ -5,7 +5,7 @@ ghost use Rattle.dname.specs.Labels.{wire};
 ghost use Rattle.dname.specs.Wire.{labels_of, IsWire};
 ghost use Rattle.message_grammar.specs.Packing.{find};
 ghost use Rattle.suffixes.specs.Kept.{kept_bytes, texts_of, bytes_at, notes_of, IsKept, AreKept};
-ghost use Rattle.suffixes.specs.Ways.{way, AreLinked, AreFirsts, IsPut, ArePut, IsEndOf};
+ghost use Rattle.suffixes.specs.Branches.{branch, AreLinked, AreFirsts, IsPut, ArePut, IsEndOf};
 ghost use Rattle.suffixes.specs.Longest.{longest, first_notes};
 
 use dname::{LONGEST_NAME, Name, next_label};
@@ -22,8 +22,8 @@ const SIZES: usize = LONGEST_NAME + 1;
 // Room at first for the suffixes of a few names.
 const COMMON_NOTES: usize = 16;
 
-// The ways on from a note: two bits of a suffix tell which one it takes.
-const WAYS: usize = 4;
+// The branches at a note: two bits of a suffix tell which one it takes.
+const BRANCHES: usize = 4;
 
 /// The longest suffix of a name that was written before.
 #[derive(Clone, Copy, Debug)]
@@ -42,17 +42,17 @@ pub struct Noted {
     start: usize,
     size: usize,
     place: u16,
-    // The numbers of the notes that the ways on from it lead to: 0 where there is none.
-    next: [usize; WAYS],
+    // The numbers of the notes that its branches lead to: 0 where there is none.
+    next: [usize; BRANCHES],
 }
 
-// Where the way of a suffix ends.
+// Where the path of a suffix ends.
 #[derive(Clone, Copy)]
 pub enum End {
     // Where it begins: no note has its size.
     Nowhere,
-    // Behind the note of this number, on this way on from it: no note has the suffix.
-    Behind { number: usize, way: usize },
+    // Behind the note of this number, on this branch: no note has the suffix.
+    Behind { number: usize, branch: usize },
     // At the note of this number, which has the suffix.
     At(usize),
 }
@@ -64,7 +64,7 @@ pub struct Suffixes<A: Allocator = Global> {
     // The names in wire form, one behind the other: the suffixes of a name are ends of it and share its bytes.
     names: Vec<u8, A>,
     notes: Vec<Noted, A>,
-    // By size, the number of the first note of that size, where the ways of such suffixes begin: 0 where none has it.
+    // By size, the number of the first note of that size, where the paths of such suffixes begin: 0 where none has it.
     firsts: [usize; SIZES],
 }
 
@@ -72,7 +72,7 @@ impl<A: Allocator> Model for Suffixes<A> {
     ghost use Rattle.std.specs.Prelude.{List};
     ghost use Rattle.message_grammar.specs.Packing.{Note};
     ghost use Rattle.suffixes.specs.Kept.{notes_of, AreKept};
-    ghost use Rattle.suffixes.specs.Ways.{ArePut};
+    ghost use Rattle.suffixes.specs.Branches.{ArePut};
 
     ghost Value = { List Note };
 
@@ -99,10 +99,10 @@ impl Noted {
     }
 }
 
-// Which way on a suffix takes where it has passed so many notes: two bits of it, from its first byte on. So suffixes
-// of one size go apart where they differ first, and a way is no longer than four notes for each byte.
-fn way_at(suffix: &[u8], depth: usize) -> usize
-    ensures is { result ≡ way suffix.now depth }
+// Which branch a suffix takes where it has passed so many notes: two bits of it, from its first byte on. So suffixes of
+// one size part where they differ first, and a path has no more than four notes for each byte.
+fn branch_at(suffix: &[u8], depth: usize) -> usize
+    ensures is { result ≡ branch suffix.now depth }
     ensures few { result < 4 }
 {
     let byte = suffix.get(depth / 4).copied().unwrap_or(0);
@@ -115,7 +115,7 @@ fn way_at(suffix: &[u8], depth: usize) -> usize
     usize::from(bits % 4)
 }
 
-// Follows the way of a suffix from this note on.
+// Follows the path of a suffix from this note on.
 fn end_of(notes: &[Noted], first: usize, names: &[u8], suffix: &[u8]) -> End
     requires kept { AreKept names.now notes.now }
     requires linked { AreLinked notes.now }
@@ -131,15 +131,15 @@ fn end_of(notes: &[Noted], first: usize, names: &[u8], suffix: &[u8]) -> End
         if note.has(names, suffix) {
             return End::At(number);
         }
-        let way = way_at(suffix, depth);
-        end = End::Behind { number, way };
-        number = note.next[way];
+        let branch = branch_at(suffix, depth);
+        end = End::Behind { number, branch };
+        number = note.next[branch];
         depth += 1;
     }
     end
 }
 
-// Puts the last note, which has this suffix, at the end of its way, unless one of the same suffix stands there.
+// Puts the last note, which has this suffix, at the end of its path, unless one of the same suffix stands there.
 fn link(notes: &mut [Noted], firsts: &mut [usize; SIZES], names: &[u8], suffix: &[u8])
     requires kept { AreKept names.now notes.old }
     requires wire { IsWire suffix.now }
@@ -154,7 +154,7 @@ fn link(notes: &mut [Noted], firsts: &mut [usize; SIZES], names: &[u8], suffix: 
     let last = notes.len();
     match end_of(notes, firsts[suffix.len()], names, suffix) {
         End::At(_) => {}
-        End::Behind { number, way } => notes[number - 1].next[way] = last,
+        End::Behind { number, branch } => notes[number - 1].next[branch] = last,
         End::Nowhere => firsts[suffix.len()] = last,
     }
 }
@@ -206,7 +206,7 @@ fn note_labels<A: Allocator>(
             start: names.len() - size,
             size,
             place: place as u16,
-            next: [0; WAYS],
+            next: [0; BRANCHES],
         });
         link(notes, firsts, names, rest);
         place += 1 + label.len();
@@ -263,7 +263,7 @@ impl<A: Allocator> Suffixes<A> {
         self.names.clear();
     }
 
-    // The place of the earliest note of a suffix, which stands on its way.
+    // The place of the earliest note of a suffix, which stands on its path.
     fn find(&self, suffix: &[u8]) -> Option<u16>
         requires wire { IsWire suffix.now }
         requires short { length suffix.now < 256 }

@@ -3,8 +3,8 @@
 //!
 //! The writer of a message calls `longest` before it writes a name, and `note` behind it: every suffix that begins
 //! with a label that was written, and that a pointer can reach (places below 16,384), is noted with its place.
-//! A suffix is compared with noted ones of its own length alone, and of these with those on its way: two bits of it
-//! tell at each of them which one is next. So a look-up compares four for each byte of the suffix at most, however
+//! A suffix is compared with noted ones of its own length alone, and of these with those on its path: two bits of
+//! it tell at each of them which one is next. So a look-up compares four for each byte of the suffix at most, however
 //! many names a message has and whatever they are.
 //!
 //! Promised: `longest` gives the longest suffix that was noted, at its earliest place, and never the root

@@ -23,8 +23,8 @@ loop-number-smaller c =
 
 pub loop-number-preserved : goal.loop-number-preserved
 loop-number-preserved c =
-    following_on c.args.names.now c.args.notes.now c.args.first c.args.suffix.now c.loop-number.number c.loop-number.depth c.way_at-way.result c.loop-number.end c.requires.linked
-    c.loop-number.invariant c.loop-number-test.true (search rules) c.way_at-way.ensures.is
+    following_on c.args.names.now c.args.notes.now c.args.first c.args.suffix.now c.loop-number.number c.loop-number.depth c.branch_at-branch.result c.loop-number.end c.requires.linked
+    c.loop-number.invariant c.loop-number-test.true (search rules) c.branch_at-branch.ensures.is
 
 pub returns : goal.returns
 returns c = following_ends _ c.args.notes.now c.args.first c.args.suffix.now c.loop-number.number c.loop-number.depth c.loop-number.end c.loop-number.invariant (omega arith)

@@ -1,7 +1,7 @@
 use Rattle.std.proofs.Common.{◌≡◌, ◌+◌, ◌-◌, ◌∙◌, ◌++◌, [], ◌∷◌, List, sym, subst, arith, rules, length, refl, take, drop, replicate}
 use Rattle.suffixes.specs.declared.earlier.Noted.{Noted}
 use Rattle.suffixes.specs.Kept.{AreKept}
-use Rattle.suffixes.specs.Ways.{ArePut}
+use Rattle.suffixes.specs.Branches.{ArePut}
 use Rattle.suffixes.proofs.Steps.{Noting, noting_ends, noting_far, noting_on, noting_linked, written_back, pushed_last, kept_last}
 use Rattle.suffixes.proofs.Links.{put_behind, counted}
 use Rattle.suffixes.proofs.earlier.note_labels.Goals as goal

@@ -1,5 +1,5 @@
 use Rattle.std.proofs.Common.{◌+◌, ◌-◌, ◌<◌, ◌≤◌, min, length, vec_len, vec_capacity}
-use Rattle.suffixes.specs.Ways.{ArePut}
+use Rattle.suffixes.specs.Branches.{ArePut}
 use Rattle.suffixes.proofs.Steps.{Noting}
 use Rattle.suffixes.proofs.earlier.note_labels.Given as goal
 

@@ -18,5 +18,5 @@ returns-in-Nowhere-clause-is g c =
 pub returns-in-Behind-clause-is : goal.returns-in-Behind-clause-is
 returns-in-Behind-clause-is g c =
     let end = rw c.deref.ensures.value at (rw c.deref-2.ensures.value at c.in-Behind.ensures) in
-    found_behind c.self.inside.names.items c.self.inside.notes.items c.self.inside.firsts c.args.suffix.now c.in-Behind.number c.in-Behind.way c.self.invariant.0 c.self.invariant.1 c.requires.wire end
+    found_behind c.self.inside.names.items c.self.inside.notes.items c.self.inside.firsts c.args.suffix.now c.in-Behind.number c.in-Behind.branch c.self.invariant.0 c.self.invariant.1 c.requires.wire end
     ∙ ap (λ notes. find notes (labels_of c.args.suffix.now)) c.self.view_is
