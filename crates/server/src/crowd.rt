@@ -1,6 +1,9 @@
 //! Asks over TCP that wait for a place at their server.
-ghost use Rattle.std.specs.Prelude.{◌≡◌};
-ghost use Rattle.server.specs.Crowds.{turn_by};
+ghost use Rattle.std.specs.Prelude.{◌≡◌, Bool, [], ◌∷◌, ◌++◌, length, OnOk, OnErr};
+ghost use Rattle.std.specs.List.{position};
+ghost use Rattle.admission.specs.Moves.{first_of, without_first};
+ghost use Rattle.server.specs.Crowds.{is_at, is_late, turn_by};
+ghost use Rattle.server.specs.declared.outbox.StreamAsk.{StreamAsk};
 
 use crate::outbox::StreamAsk;
 use counters::AskFault;
@@ -8,6 +11,7 @@ use limits::TCP_WAIT_MS;
 use rdata::Addr;
 use std::alloc::Global;
 use std::collections::VecDeque;
+use std::marker::Model;
 
 // How many asks are under way to one server, at most.
 const ASKS_OF_A_SERVER: usize = 32;
@@ -42,83 +46,95 @@ pub(crate) fn turn_by(waited_ms: u64, at_server: usize, waiting: usize) -> Turn
     }
 }
 
-// The asks that wait for one server, in the order in which they came.
+/// The asks that wait, in the order in which they came. Contracts see just them.
 #[derive(Drop)]
-struct Line {
-    server: Addr,
+pub(crate) struct Crowd {
     asks: VecDeque<StreamAsk>,
 }
 
-impl Line {
-    // Whether the time of its first ask is over.
-    fn is_late(&self, now: u64) -> bool {
-        match self.asks.front() {
-            Some(ask) => now.saturating_sub(ask.moment) >= TCP_WAIT_MS,
-            None => false,
-        }
-    }
-}
+impl Model for Crowd {
+    ghost use Rattle.std.specs.Prelude.{List};
+    ghost use Rattle.server.specs.declared.outbox.StreamAsk.{StreamAsk};
 
-/// The asks that wait, by their servers. Those are few, since as many asks as may be are under way to each.
-#[derive(Drop)]
-pub(crate) struct Crowd {
-    alloc: Global,
-    lines: Vec<Line>,
+    ghost Value = { List StreamAsk };
+
+    ghost view = { λ c. c.asks.items };
 }
 
 impl Crowd {
     /// With none.
-    pub fn new(alloc: Global) -> Crowd {
+    pub fn new(alloc: Global) -> Crowd
+        ensures { result ≡ [] }
+    {
         Crowd {
-            alloc,
-            lines: Vec::new(alloc),
+            asks: VecDeque::new(alloc),
         }
     }
 
     /// How many wait.
-    pub fn waiting(&self) -> usize {
-        let mut count = 0usize;
-        for line in self.lines.iter() {
-            count = count.saturating_add(line.asks.len());
+    pub fn waiting(&self) -> usize
+        ensures { result ≡ length self.now }
+    {
+        self.asks.len()
+    }
+
+    /// Keeps an ask, behind those that wait. It fails where no memory is left.
+    pub fn keep(&mut self, ask: StreamAsk) -> Result<(), AskFault>
+        ensures ok { OnOk result (self.new ≡ self.old ++ ask ∷ []) }
+        ensures err { OnErr result (self.new ≡ self.old) }
+    {
+        match self.asks.push_back(ask) {
+            Ok(()) => Ok(()),
+            Err(_) => Err(AskFault::Refused),
         }
-        count
-    }
-
-    /// Keeps an ask, behind those that wait for its server. It fails where no memory is left.
-    pub fn keep(&mut self, ask: StreamAsk) -> Result<(), AskFault> {
-        let kept = match self.place(ask.to.address) {
-            Some(place) => match self.lines.get_mut(place) {
-                Some(line) => line.asks.push_back(ask).is_ok(),
-                None => false,
-            },
-            None => self.keep_first(ask),
-        };
-        if kept { Ok(()) } else { Err(AskFault::Refused) }
-    }
-
-    // Keeps the first ask that waits for its server; whether it could.
-    fn keep_first(&mut self, ask: StreamAsk) -> bool {
-        let server = ask.to.address;
-        let mut asks = VecDeque::new(self.alloc);
-        asks.push_back(ask).is_ok() && self.lines.push(Line { server, asks }).is_ok()
-    }
-
-    // Where the line for that server stands.
-    fn place(&self, server: Addr) -> Option<usize> {
-        self.lines.iter().position(|line| line.server == server)
     }
 
     /// The first that waits for that server, which no longer waits.
-    pub fn next(&mut self, server: Addr) -> Option<StreamAsk> {
-        let place = self.place(server)?;
-        let ask = self.lines.get_mut(place)?.asks.pop_front();
-        self.lines.retain(|line| !line.asks.is_empty());
-        ask
+    pub fn next(&mut self, server: Addr) -> Option<StreamAsk>
+        ensures first { result ≡ first_of (is_at server) self.old }
+        ensures others { self.new ≡ without_first (is_at server) self.old }
+    {
+        let place = place_at(&self.asks, server);
+        take(&mut self.asks, place)
     }
 
-    /// One whose time is over, which no longer waits. To be called until there is none.
-    pub fn late(&mut self, now: u64) -> Option<StreamAsk> {
-        let server = self.lines.iter().find(|line| line.is_late(now))?.server;
-        self.next(server)
+    /// The first whose time is over, which no longer waits.
+    pub fn late(&mut self, now: u64) -> Option<StreamAsk>
+        ensures first { result ≡ first_of (is_late now) self.old }
+        ensures others { self.new ≡ without_first (is_late now) self.old }
+    {
+        let place = place_of_late(&self.asks, now);
+        take(&mut self.asks, place)
+    }
+}
+
+// Where the first stands that is for that server.
+fn place_at(asks: &VecDeque<StreamAsk>, server: Addr) -> Option<usize>
+    ensures { result ≡ position (is_at server) asks.now.items }
+{
+    asks.iter().position(|ask| ask.to.address == server)
+}
+
+// Where the first stands whose time is over.
+fn place_of_late(asks: &VecDeque<StreamAsk>, now: u64) -> Option<usize>
+    ensures { result ≡ position (is_late now) asks.now.items }
+{
+    asks.iter().position(|ask| is_late(ask, now))
+}
+
+// Whether the time of an ask is over.
+fn is_late(ask: &StreamAsk, now: u64) -> bool
+    ensures { result ≡ is_late now ask.now }
+{
+    now.saturating_sub(ask.moment) >= TCP_WAIT_MS
+}
+
+// Takes out the ask at this place, where there is one: the first that passes a test whose first stands there.
+fn take(asks: &mut VecDeque<StreamAsk>, place: Option<usize>) -> Option<StreamAsk>
+    ensures { (test : StreamAsk → Bool) → place ≡ position test asks.old.items → (result ≡ first_of test asks.old.items) × (asks.new.items ≡ without_first test asks.old.items) }
+{
+    match place {
+        Some(place) => asks.remove(place),
+        None => None,
     }
 }
