@@ -1,5 +1,5 @@
 //! Admission of queries: which are admitted, which wait, and which are called in.
-ghost use Rattle.std.specs.Prelude.{◌≡◌, ◌+◌, ◌<◌, nat_le, ◌≤◌, false, [], ◌∷◌, ◌++◌, length, slice_index_or, None, IfOk};
+ghost use Rattle.std.specs.Prelude.{◌≡◌, ◌+◌, ◌<◌, nat_le, ◌≤◌, false, [], ◌∷◌, ◌++◌, length, slice_index_or, None, IfOk, IfSome, IsSome, ◌↔◌};
 ghost use Rattle.std.specs.Option.{is_some};
 ghost use Rattle.std.specs.List.{count_by, remove};
 ghost use Rattle.std.specs.VecDeque.{deque_capacity};
@@ -162,6 +162,14 @@ impl<T: Drop, A: Allocator> Admission<T, A> {
         };
         self.admitted.push(admitted).unwrap();
         Some(query)
+    }
+
+    /// The query that waits at this place; the first that came is at 0. None past the last.
+    pub fn waits_at(&self, place: usize) -> Option<&Held<T>>
+        ensures there { IsSome result ↔ (place < length self.now.waiting) }
+        ensures query { IfSome result (λ q. q.now ≡ slice_index_or self.now.waiting place q.now) }
+    {
+        self.waiting.get(place)
     }
 
     /// Drops the queries that have waited for their time, and says how many.

@@ -5,7 +5,7 @@ ghost use Rattle.std.specs.VecDeque.{deque_capacity};
 ghost use Rattle.admission.specs.States.{address_in, admitted_with, admitted_from, held_with, held_from};
 ghost use Rattle.admission.specs.Moves.{first_of, without_first, is_entering, is_open, is_late, may_wait};
 
-use crate::limits::{OPEN_MS, WAIT_MS};
+use crate::limits::OPEN_MS;
 use crate::queries::{Admitted, Held};
 use std::alloc::Allocator;
 use std::collections::VecDeque;
@@ -112,6 +112,6 @@ pub fn drop_late<T: Drop, A: Allocator>(queries: &mut VecDeque<Held<T>, A>, now:
     ensures capacity { deque_capacity queries.new ≡ deque_capacity queries.old }
 {
     let before = queries.len();
-    queries.retain(|query| now.saturating_sub(query.since) < WAIT_MS);
+    queries.retain(|query| !query.is_late(now));
     before - queries.len()
 }

@@ -1,4 +1,8 @@
 //! Queries as admission sees them: by key, client and moment.
+ghost use Rattle.std.specs.Prelude.{◌≡◌, not};
+ghost use Rattle.admission.specs.Moves.{may_wait};
+
+use crate::limits::WAIT_MS;
 
 /// A query that was admitted. It is open since the moment `opened`, in milliseconds; while its step runs it has none.
 #[derive(Clone, Copy, Debug, PartialEq, Eq)]
@@ -22,6 +26,15 @@ pub struct Held<T> {
     pub since: u64,
     /// What it is put in with.
     pub payload: T,
+}
+
+impl<T> Held<T> {
+    /// Whether it has waited for its time at this moment, in milliseconds.
+    pub fn is_late(&self, now: u64) -> bool
+        ensures { result ≡ not (may_wait now self.now) }
+    {
+        now.saturating_sub(self.since) >= WAIT_MS
+    }
 }
 
 /// What is decided of a query that comes. What is not held is given back.

@@ -3,16 +3,21 @@ use Rattle.counters.specs.declared.labels.AskFault.{AskFault}
 use Rattle.counters.specs.declared.labels.AskFault.TheVariants as ask
 use Rattle.counters.specs.declared.labels.SocketFault.TheVariants as socket
 use Rattle.counters.specs.declared.outcome.Outcome.{Outcome}
-use Rattle.counters.specs.declared.outcome.Outcome.TheVariants.{MemoryRefused, SocketFailed}
+use Rattle.counters.specs.declared.labels.Way.TheVariants as way
+use Rattle.counters.specs.declared.outcome.Outcome.TheVariants.{AskFailed, MemoryRefused, SocketFailed}
 use Rattle.server.specs.declared.framed_stream.StreamFault.{StreamFault}
 use Rattle.server.specs.declared.framed_stream.StreamFault.TheVariants.{Memory, Refused, Silent, Reset}
 
--- Of a stream to a server, as the reason of a failed ask.
-abbrev pub ask_fault : StreamFault → AskFault
-ask_fault Memory = ask.Refused
-ask_fault Refused = ask.Refused
-ask_fault Silent = ask.Silent
-ask_fault Reset = ask.Reset
+-- An ask over TCP that has failed.
+abbrev pub failed : AskFault → Outcome
+failed fault = AskFailed way.Tcp fault
+
+-- Of a stream to a server.
+abbrev pub ask_outcome : StreamFault → Outcome
+ask_outcome Memory = MemoryRefused
+ask_outcome Refused = failed ask.Refused
+ask_outcome Silent = failed ask.Silent
+ask_outcome Reset = failed ask.Reset
 
 -- Of a client's stream.
 abbrev pub stream_outcome : StreamFault → Outcome

@@ -108,7 +108,7 @@ impl ClientStream {
         Some(frame)
     }
 
-    /// The last question has no reply: no more are taken, and the stream ends once the others have theirs.
+    /// A question has no reply: no more are taken, and the stream ends once the others have theirs.
     pub fn close(&mut self) {
         self.awaited = self.awaited.saturating_sub(1);
         self.closing = true;

@@ -2,6 +2,7 @@
 use crate::context::{Common, Context};
 use crate::ends::Ends;
 use crate::log::Log;
+use crate::outbox::{StreamReply, hand_back};
 use crate::worker::Worker;
 use book::Machine;
 use counters::Outcome;
@@ -42,11 +43,18 @@ pub(crate) fn pass_time<
     }
 }
 
-// Lets time pass in admission.
+// Lets time pass in admission. A stream of which a question was dropped there is to end.
 fn drop_late<R: Wait>(rt: &R, common: &Common<'_>, moment: u64) {
-    let late = common.admission.pass_time(rt, moment);
+    let (late, streams) = common.admission.pass_time(rt, moment);
     if late > 0 {
         common.ends.count(Outcome::Dropped(late));
+    }
+    for client in streams {
+        let reply = StreamReply {
+            client,
+            bytes: None,
+        };
+        hand_back(rt, common.ends, common.to_streams, reply);
     }
 }
 

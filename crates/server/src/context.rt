@@ -89,6 +89,8 @@ pub(crate) struct Common<'a> {
     pub to_streams: &'a Sender<StreamReply>,
     pub replies: &'a Receiver<StreamReply>,
     pub stop: &'a AtomicBool,
+    /// Whether a loop could not begin for want of memory.
+    pub gave_up: &'a AtomicBool,
     pub beginning: Beginning,
 }
 
@@ -105,9 +107,10 @@ impl Common<'_> {
         self.stop.load(Ordering::SeqCst)
     }
 
-    /// A loop can't begin for want of memory: all loops end, so that a service manager starts the server anew.
+    /// A loop can't begin for want of memory: all loops end, and the server is refused with `Memory`.
     pub fn give_up(&self) {
         self.ends.count(Outcome::MemoryRefused);
+        self.gave_up.store(true, Ordering::SeqCst);
         self.stop.store(true, Ordering::SeqCst);
     }
 

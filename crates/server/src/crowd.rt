@@ -1,13 +1,14 @@
-//! Asks over TCP that wait for a place at their server.
+//! Asks over TCP that wait for a place.
 ghost use Rattle.std.specs.Prelude.{◌≡◌, Bool, [], ◌∷◌, ◌++◌, length, OnOk, OnErr};
 ghost use Rattle.std.specs.List.{position};
 ghost use Rattle.admission.specs.Moves.{first_of, without_first};
-ghost use Rattle.server.specs.Crowds.{is_at, is_late, turn_by};
+ghost use Rattle.server.specs.Crowds.{admits, is_elsewhere, is_late, turn_by};
 ghost use Rattle.server.specs.declared.outbox.StreamAsk.{StreamAsk};
 
 use crate::outbox::StreamAsk;
 use counters::AskFault;
 use limits::TCP_WAIT_MS;
+use memory::Starved;
 use rdata::Addr;
 use std::alloc::Global;
 use std::collections::VecDeque;
@@ -16,28 +17,49 @@ use std::marker::Model;
 // How many asks are under way to one server, at most.
 const ASKS_OF_A_SERVER: usize = 32;
 
-// How many asks wait for a place at their servers, at most.
+// How many asks wait for a place, at most.
 const MOST_WAITING: usize = 1_024;
+
+/// How many asks may be under way, and how many are.
+#[derive(Clone, Copy)]
+pub(crate) struct Places {
+    /// How many may be.
+    pub most: usize,
+    /// How many more may be now.
+    pub free: usize,
+}
+
+impl Places {
+    /// Whether another ask of a server may begin to which so many are under way. The last quarter of the places is for
+    /// servers that have none, so that a few silent ones do not take all.
+    pub fn admits(self, at_server: usize) -> bool
+        ensures { result ≡ admits self at_server }
+    {
+        self.free > 0
+            && at_server < ASKS_OF_A_SERVER
+            && (at_server == 0 || self.most / 4 < self.free)
+    }
+}
 
 /// What becomes of an ask.
 #[derive(Clone, Copy)]
 pub(crate) enum Turn {
     /// It begins.
     Begins,
-    /// It waits for a place at its server.
+    /// It waits for a place.
     Waits,
     /// It fails.
     Fails(AskFault),
 }
 
-/// What becomes of an ask that was made so many milliseconds ago, by how many are under way to its server, and how many
-/// wait in all.
-pub(crate) fn turn_by(waited_ms: u64, at_server: usize, waiting: usize) -> Turn
-    ensures { result ≡ turn_by waited_ms at_server waiting }
+/// What becomes of an ask that was made so many milliseconds ago, by the places, by how many are under way to its
+/// server, and by how many wait in all.
+pub(crate) fn turn_by(waited_ms: u64, places: Places, at_server: usize, waiting: usize) -> Turn
+    ensures { result ≡ turn_by waited_ms places at_server waiting }
 {
     if waited_ms >= TCP_WAIT_MS {
         Turn::Fails(AskFault::Silent)
-    } else if at_server < ASKS_OF_A_SERVER {
+    } else if places.admits(at_server) {
         Turn::Begins
     } else if waiting < MOST_WAITING {
         Turn::Waits
@@ -78,23 +100,23 @@ impl Crowd {
         self.asks.len()
     }
 
-    /// Keeps an ask, behind those that wait. It fails where no memory is left.
-    pub fn keep(&mut self, ask: StreamAsk) -> Result<(), AskFault>
+    /// Keeps an ask, behind those that wait. Refused where no memory is left.
+    pub fn keep(&mut self, ask: StreamAsk) -> Result<(), Starved>
         ensures ok { OnOk result (self.new ≡ self.old ++ ask ∷ []) }
         ensures err { OnErr result (self.new ≡ self.old) }
     {
         match self.asks.push_back(ask) {
             Ok(()) => Ok(()),
-            Err(_) => Err(AskFault::Refused),
+            Err(_) => Err(Starved),
         }
     }
 
-    /// The first that waits for that server, which no longer waits.
-    pub fn next(&mut self, server: Addr) -> Option<StreamAsk>
-        ensures first { result ≡ first_of (is_at server) self.old }
-        ensures others { self.new ≡ without_first (is_at server) self.old }
+    /// The first whose server is none of these, which no longer waits.
+    pub fn next(&mut self, full: &[Addr]) -> Option<StreamAsk>
+        ensures first { result ≡ first_of (is_elsewhere full.now) self.old }
+        ensures others { self.new ≡ without_first (is_elsewhere full.now) self.old }
     {
-        let place = place_at(&self.asks, server);
+        let place = place_elsewhere(&self.asks, full);
         take(&mut self.asks, place)
     }
 
@@ -108,11 +130,18 @@ impl Crowd {
     }
 }
 
-// Where the first stands that is for that server.
-fn place_at(asks: &VecDeque<StreamAsk>, server: Addr) -> Option<usize>
-    ensures { result ≡ position (is_at server) asks.now.items }
+// Where the first stands whose server is none of these.
+fn place_elsewhere(asks: &VecDeque<StreamAsk>, full: &[Addr]) -> Option<usize>
+    ensures { result ≡ position (is_elsewhere full.now) asks.now.items }
 {
-    asks.iter().position(|ask| ask.to.address == server)
+    asks.iter().position(|ask| is_elsewhere(ask, full))
+}
+
+// Whether the server of an ask is none of these.
+fn is_elsewhere(ask: &StreamAsk, full: &[Addr]) -> bool
+    ensures { result ≡ is_elsewhere full.now ask.now }
+{
+    !full.contains(&ask.to.address)
 }
 
 // Where the first stands whose time is over.

@@ -18,11 +18,25 @@ pub(crate) struct StreamAsk {
     pub moment: u64,
 }
 
-/// A reply for the client whose frame came under this number.
+/// What came of the frame of a client that came under this number.
 #[derive(Drop)]
 pub(crate) struct StreamReply {
     pub client: u64,
-    pub bytes: Bytes,
+    /// The reply. None where there will be none, since the question waited in admission until it was dropped.
+    pub bytes: Option<Bytes>,
+}
+
+/// Hands on what came of a frame, to the loop of clients' streams.
+pub(crate) fn hand_back<R: Wait>(
+    rt: &R,
+    ends: &Ends,
+    to_streams: &Sender<StreamReply>,
+    reply: StreamReply,
+) {
+    if to_streams.send(rt, reply).is_err() {
+        ends.count(Outcome::MemoryRefused);
+    }
+    ends.streams.notify();
 }
 
 /// The sockets, and the channels to the loops of streams.
@@ -55,7 +69,11 @@ impl<R: Wait + Clock> Carrier<Global> for Outbox<'_, R> {
             self.ends.count(Outcome::MemoryRefused);
             return;
         };
-        self.hand_back(StreamReply { client, bytes });
+        let reply = StreamReply {
+            client,
+            bytes: Some(bytes),
+        };
+        hand_back(self.rt, self.ends, self.to_streams, reply);
     }
 
     fn to_server(&mut self, socket: u16, to: Endpoint, bytes: &Bytes) {
@@ -95,13 +113,5 @@ impl<R: Wait + Clock> Outbox<'_, R> {
         }
         self.ends.servers.notify();
         sent
-    }
-
-    // Hands a reply on to the loop of clients' streams.
-    fn hand_back(&self, reply: StreamReply) {
-        if self.to_streams.send(self.rt, reply).is_err() {
-            self.ends.count(Outcome::MemoryRefused);
-        }
-        self.ends.streams.notify();
     }
 }

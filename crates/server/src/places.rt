@@ -79,6 +79,15 @@ impl Places {
         }
     }
 
+    /// A question of the stream of this number has no reply: the stream is to end, if it is still open.
+    pub fn close(&mut self, number: u64) {
+        if let Some(client) = self.open.get_mut(usize::from(place_of(number)))
+            && client.number == number
+        {
+            client.close();
+        }
+    }
+
     /// Ends what is over, and counts what failed.
     pub fn end_over(&mut self, ends: &Ends, now: u64) {
         for (_, client) in self.open.iter() {

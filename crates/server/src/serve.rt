@@ -30,7 +30,7 @@ use typed::{TypedActions, TypedEvent};
 
 /// Serves at these ends within these bounds until the flag is up: each ticket is for one loop, by its worker's number.
 /// Every loop has ended when this returns. Where a thread can't be made the flag is put up, and the server is refused
-/// with `Threads`.
+/// with `Threads`; where a loop can't begin for want of memory, with `Memory`.
 pub fn serve_until<
     M: Measured<Event = TypedEvent, Out = TypedActions, Sizes = StoreSizes> + Send + Sync,
     L: Ledger + Send + Sync,
@@ -57,6 +57,7 @@ pub fn serve_until<
     };
     let (to_servers, asks) = crossbeam_channel::unbounded(alloc)?;
     let (to_streams, replies) = crossbeam_channel::unbounded(alloc)?;
+    let gave_up = AtomicBool::new(false);
     let common = Common {
         alloc,
         ends,
@@ -67,6 +68,7 @@ pub fn serve_until<
         to_streams: &to_streams,
         replies: &replies,
         stop,
+        gave_up: &gave_up,
         beginning,
     };
     run(rt, shared, &common, workers)
@@ -90,10 +92,12 @@ fn run<
         rt,
         |scope| start_all(rt, scope, &context, workers),
     );
-    if well {
-        Ok(())
-    } else {
+    if !well {
         Err(ServeError::Threads)
+    } else if common.gave_up.load(Ordering::SeqCst) {
+        Err(ServeError::Memory)
+    } else {
+        Ok(())
     }
 }
 
@@ -116,7 +120,7 @@ fn start_all<
         let started = start(rt, scope, context, worker);
         well = well && started;
     }
-    if well {
+    if well && !context.common.is_over() {
         context.common.ends.tell("READY=1");
     }
     well

@@ -1,9 +1,9 @@
 //! The loop that asks servers over TCP.
 ghost use Rattle.std.specs.Prelude.{◌≡◌, ◌<◌, ◌^◌, IfOk, IfSome, length};
-ghost use Rattle.server.specs.Failures.{ask_fault};
+ghost use Rattle.server.specs.Failures.{ask_outcome, failed};
 
 use crate::context::{Bounds, Common, Context};
-use crate::crowd::{Crowd, Turn, turn_by};
+use crate::crowd::{Crowd, Places, Turn, turn_by};
 use crate::ends::{SLICE_MS, address_of, lacks_descriptors};
 use crate::framed_stream::{FramedStream, MOST_FRAME_BYTES, StreamFault};
 use crate::outbox::StreamAsk;
@@ -13,6 +13,7 @@ use book::Machine;
 use counters::{AskFault, Outcome, Way};
 use dispatch::stream_reply_event;
 use limits::TCP_WAIT_MS;
+use memory::Starved;
 use mio::net::TcpStream;
 use mio::{Events, Interest, Poll};
 use rdata::Addr;
@@ -47,7 +48,7 @@ struct Talk {
 
 impl Talk {
     // Writes and reads what can be. None where it waits on; else it has ended, with the frame that came if one did.
-    fn advance(&mut self, alloc: Global, buffer: &mut [u8]) -> Option<Result<Vec<u8>, AskFault>>
+    fn advance(&mut self, alloc: Global, buffer: &mut [u8]) -> Option<Result<Vec<u8>, Outcome>>
         ensures { IfSome result (λ end. IfOk end (λ v. length v.items < 2 ^ 16)) }
     {
         self.due = false;
@@ -56,45 +57,86 @@ impl Talk {
             return Some(Ok(frame));
         }
         match self.stream.fault() {
-            Some(fault) => Some(Err(ask_fault(fault))),
-            None if self.stream.has_ended() => Some(Err(AskFault::Reset)),
+            Some(fault) => Some(Err(ask_outcome(fault))),
+            None if self.stream.has_ended() => Some(Err(failed(AskFault::Reset))),
             None => None,
         }
     }
 }
 
-// The asks that are under way, and those that wait for a place at their servers.
+// The asks that are under way, and those that wait for a place.
 #[derive(Drop)]
 struct Asking {
     talks: Slab<Talk>,
     crowd: Crowd,
+    // How many are under way at most.
+    most: usize,
 }
 
 impl Asking {
-    // What becomes of an ask now.
-    fn turn_of(&self, ask: &StreamAsk, now: u64) -> Turn {
-        let server = ask.to.address;
-        let at_server = self
-            .talks
+    fn places(&self) -> Places {
+        Places {
+            most: self.most,
+            free: self.most.saturating_sub(self.talks.len()),
+        }
+    }
+
+    // How many asks of that server are under way.
+    fn at_server(&self, server: Addr) -> usize {
+        self.talks
             .iter()
             .filter(|(_, talk)| talk.server == server)
-            .count();
+            .count()
+    }
+
+    // What becomes of an ask now.
+    fn turn_of(&self, ask: &StreamAsk, now: u64) -> Turn {
         turn_by(
             now.saturating_sub(ask.moment),
-            at_server,
+            self.places(),
+            self.at_server(ask.to.address),
             self.crowd.waiting(),
         )
     }
+
+    // The servers that are asked now and of which no further ask may begin.
+    fn full_servers(&self, alloc: Global) -> Result<Vec<Addr>, Starved> {
+        let places = self.places();
+        let mut full = Vec::new(alloc);
+        for (_, talk) in self.talks.iter() {
+            if !full.contains(&talk.server) && !places.admits(self.at_server(talk.server)) {
+                full.push(talk.server)?;
+            }
+        }
+        Ok(full)
+    }
+
+    // The first that waits and may begin now, which no longer waits. Out of memory it waits on.
+    fn next(&mut self, alloc: Global) -> Option<StreamAsk> {
+        if self.places().free == 0 {
+            return None;
+        }
+        let full = self.full_servers(alloc).ok()?;
+        self.crowd.next(&full)
+    }
 }
 
-// Why an ask has no reply whose stream failed so.
-fn ask_fault(fault: StreamFault) -> AskFault
-    ensures { result ≡ ask_fault fault }
+// How an ask counts that has failed so.
+fn failed(fault: AskFault) -> Outcome
+    ensures { result ≡ failed fault }
+{
+    Outcome::AskFailed(Way::Tcp, fault)
+}
+
+// How an ask counts whose stream failed so.
+fn ask_outcome(fault: StreamFault) -> Outcome
+    ensures { result ≡ ask_outcome fault }
 {
     match fault {
-        StreamFault::Memory | StreamFault::Refused => AskFault::Refused,
-        StreamFault::Silent => AskFault::Silent,
-        StreamFault::Reset => AskFault::Reset,
+        StreamFault::Memory => Outcome::MemoryRefused,
+        StreamFault::Refused => failed(AskFault::Refused),
+        StreamFault::Silent => failed(AskFault::Silent),
+        StreamFault::Reset => failed(AskFault::Reset),
     }
 }
 
@@ -114,6 +156,7 @@ pub(crate) fn ask_servers<
     let mut asking = Asking {
         talks: Slab::new(context.common.alloc),
         crowd: Crowd::new(context.common.alloc),
+        most: most_talks(context.common.bounds),
     };
     let mut buffer = [0u8; MOST_FRAME_BYTES];
     let mut checked = 0;
@@ -130,14 +173,19 @@ pub(crate) fn ask_servers<
 fn await_talks(common: &Common<'_>, poll: &mut Poll, events: &mut Events, talks: &mut Slab<Talk>) {
     let servers = &common.ends.servers;
     servers.expect_notice();
-    let begins = talks.len() < most_talks(common.bounds) && !common.asks.is_empty();
-    common.wait(servers, poll, events, wait_of(talks, begins));
+    common.wait(
+        servers,
+        poll,
+        events,
+        wait_of(talks, !common.asks.is_empty()),
+    );
     for event in events.iter() {
         stir(talks, event.token().0);
     }
 }
 
-// Begins what may begin, and goes on with every talk; when it was looked last whose time is over.
+// Takes up new asks, goes on with every talk, and begins others where some have ended; when it was looked last whose
+// time is over.
 fn advance_all<
     M: Machine<Event = TypedEvent, Out = TypedActions>,
     L: Ledger,
@@ -150,11 +198,15 @@ fn advance_all<
     checked: u64,
     buffer: &mut [u8],
 ) -> u64 {
-    begin_all(rt, context, worker, asking);
+    take_up_all(rt, context, worker, asking);
     let now = context.common.moment(rt);
     let check = now.saturating_sub(checked) >= CHECK_MS;
+    let mut ended = false;
     for key in 0..asking.talks.capacity() {
-        advance(rt, context, worker, asking, key, check, buffer);
+        ended = advance(rt, context, worker, asking, key, check, buffer) || ended;
+    }
+    if ended {
+        begin_waiting(rt, context, worker, asking);
     }
     if check {
         fail_late(rt, context, worker, &mut asking.crowd, now);
@@ -167,9 +219,9 @@ fn most_talks(bounds: Bounds) -> usize {
     usize::from(bounds.workers) * ASKS_OF_A_WORKER
 }
 
-// How long is waited, in milliseconds, where another ask can begin at once or not.
-fn wait_of(talks: &Slab<Talk>, begins: bool) -> u64 {
-    if begins {
+// How long is waited, in milliseconds, where there are new asks or none.
+fn wait_of(talks: &Slab<Talk>, new: bool) -> u64 {
+    if new {
         0
     } else if talks.is_empty() {
         SLICE_MS
@@ -186,18 +238,13 @@ fn stir(talks: &mut Slab<Talk>, key: usize) {
     }
 }
 
-// Begins the asks that were handed on, as many as may be under way.
-fn begin_all<M: Machine<Event = TypedEvent, Out = TypedActions>, L: Ledger, R: Net + Wait + Clock>(
-    rt: &R,
-    context: &Context<'_, M, L>,
-    worker: &mut Worker<M, L>,
-    asking: &mut Asking,
-) {
-    let most = most_talks(context.common.bounds);
-    for _ in 0..most {
-        if asking.talks.len() >= most {
-            return;
-        }
+// Takes up the asks that were handed on, as many in a row as may be under way.
+fn take_up_all<
+    M: Machine<Event = TypedEvent, Out = TypedActions>,
+    L: Ledger,
+    R: Net + Wait + Clock,
+>(rt: &R, context: &Context<'_, M, L>, worker: &mut Worker<M, L>, asking: &mut Asking) {
+    for _ in 0..asking.most {
         let Ok(ask) = context.common.asks.try_recv(rt) else {
             return;
         };
@@ -205,53 +252,41 @@ fn begin_all<M: Machine<Event = TypedEvent, Out = TypedActions>, L: Ledger, R: N
     }
 }
 
-// A place is free at that server: the first that waits for it begins, and those before it that can't have failed.
+// Takes up those that wait for a place and may begin now.
 fn begin_waiting<
     M: Machine<Event = TypedEvent, Out = TypedActions>,
     L: Ledger,
     R: Net + Wait + Clock,
->(
-    rt: &R,
-    context: &Context<'_, M, L>,
-    worker: &mut Worker<M, L>,
-    asking: &mut Asking,
-    server: Addr,
-) {
+>(rt: &R, context: &Context<'_, M, L>, worker: &mut Worker<M, L>, asking: &mut Asking) {
     for _ in 0..asking.crowd.waiting() {
-        let Some(ask) = asking.crowd.next(server) else {
+        let Some(ask) = asking.next(context.common.alloc) else {
             return;
         };
-        if take_up(rt, context, worker, asking, ask) {
-            return;
-        }
+        take_up(rt, context, worker, asking, ask);
     }
 }
 
-// Takes up an ask; false where it has failed.
+// Takes up an ask: it begins, waits for a place, or has failed.
 fn take_up<M: Machine<Event = TypedEvent, Out = TypedActions>, L: Ledger, R: Net + Wait + Clock>(
     rt: &R,
     context: &Context<'_, M, L>,
     worker: &mut Worker<M, L>,
     asking: &mut Asking,
     ask: StreamAsk,
-) -> bool {
+) {
     let number = ask.number;
-    match begin_or_keep(rt, context.common, asking, ask) {
-        Ok(()) => true,
-        Err(fault) => {
-            fail(rt, context, worker, number, fault);
-            false
-        }
+    if let Err(outcome) = begin_or_keep(rt, context.common, asking, ask) {
+        fail(rt, context, worker, number, outcome);
     }
 }
 
-// Begins an ask, or keeps it until its server has a place.
+// Begins an ask, or keeps it until it has a place.
 fn begin_or_keep<R: Net + Clock>(
     rt: &R,
     common: &Common<'_>,
     asking: &mut Asking,
     ask: StreamAsk,
-) -> Result<(), AskFault> {
+) -> Result<(), Outcome> {
     match asking.turn_of(&ask, common.moment(rt)) {
         Turn::Begins => {
             let begun = begin(
@@ -264,10 +299,13 @@ fn begin_or_keep<R: Net + Clock>(
             drop(ask);
             begun
         }
-        Turn::Waits => asking.crowd.keep(ask),
+        Turn::Waits => match asking.crowd.keep(ask) {
+            Ok(()) => Ok(()),
+            Err(_) => Err(Outcome::MemoryRefused),
+        },
         Turn::Fails(fault) => {
             drop(ask);
-            Err(fault)
+            Err(failed(fault))
         }
     }
 }
@@ -286,22 +324,19 @@ fn fail_late<M: Machine<Event = TypedEvent, Out = TypedActions>, L: Ledger, R: W
         };
         let number = ask.number;
         drop(ask);
-        fail(rt, context, worker, number, AskFault::Silent);
+        fail(rt, context, worker, number, failed(AskFault::Silent));
     }
 }
 
-// The ask of this number has failed.
+// The ask of this number has failed, which counts so.
 fn fail<M: Machine<Event = TypedEvent, Out = TypedActions>, L: Ledger, R: Wait + Clock>(
     rt: &R,
     context: &Context<'_, M, L>,
     worker: &mut Worker<M, L>,
     number: u64,
-    fault: AskFault,
+    outcome: Outcome,
 ) {
-    context
-        .common
-        .ends
-        .count(Outcome::AskFailed(Way::Tcp, fault));
+    context.common.ends.count(outcome);
     context.put(
         rt,
         worker,
@@ -316,11 +351,11 @@ fn begin<R: Net>(
     servers: &Poller,
     talks: &mut Slab<Talk>,
     ask: &StreamAsk,
-) -> Result<(), AskFault> {
+) -> Result<(), Outcome> {
     match TcpStream::connect(rt, address_of(ask.to)) {
         Ok(stream) => watch(servers, talks, talk_of(alloc, ask, stream)),
-        Err(error) if lacks_descriptors(&error) => Err(AskFault::Descriptors),
-        Err(_) => Err(AskFault::Refused),
+        Err(error) if lacks_descriptors(&error) => Err(failed(AskFault::Descriptors)),
+        Err(_) => Err(failed(AskFault::Refused)),
     }
 }
 
@@ -338,21 +373,20 @@ fn talk_of(alloc: Global, ask: &StreamAsk, stream: TcpStream) -> Talk {
 }
 
 // Takes up a talk, whose stream is waited for from now on.
-fn watch(servers: &Poller, talks: &mut Slab<Talk>, talk: Talk) -> Result<(), AskFault> {
+fn watch(servers: &Poller, talks: &mut Slab<Talk>, talk: Talk) -> Result<(), Outcome> {
     let socket = talk.stream.descriptor();
     match talks.insert(talk) {
         Ok(key) if servers.watch(socket, key, Interest::READABLE | Interest::WRITABLE) => Ok(()),
         Ok(key) => {
             talks.try_remove(key);
-            Err(AskFault::Refused)
+            Err(failed(AskFault::Refused))
         }
-        Err(_) => Err(AskFault::Refused),
+        Err(_) => Err(Outcome::MemoryRefused),
     }
 }
 
 // Goes on with the talk of this key where there is something to do, and ends it where its reply has come, where it has
-// failed and, at a check, where its time is over, even if a part of its reply has just come. Then another ask of its
-// server begins.
+// failed and, at a check, where its time is over, even if a part of its reply has just come. Whether it has ended.
 fn advance<M: Machine<Event = TypedEvent, Out = TypedActions>, L: Ledger, R: Net + Wait + Clock>(
     rt: &R,
     context: &Context<'_, M, L>,
@@ -361,13 +395,13 @@ fn advance<M: Machine<Event = TypedEvent, Out = TypedActions>, L: Ledger, R: Net
     key: usize,
     check: bool,
     buffer: &mut [u8],
-) {
+) -> bool {
     let Some(talk) = asking.talks.get_mut(key) else {
-        return;
+        return false;
     };
-    let (number, server) = (talk.number, talk.server);
+    let number = talk.number;
     let Some(end) = end_of(rt, context.common, talk, check, buffer) else {
-        return;
+        return false;
     };
     asking.talks.try_remove(key);
     match end {
@@ -375,9 +409,9 @@ fn advance<M: Machine<Event = TypedEvent, Out = TypedActions>, L: Ledger, R: Net
             let event = stream_reply_event(context.common.moment(rt), number, Some(frame));
             context.put(rt, worker, event);
         }
-        Err(fault) => fail(rt, context, worker, number, fault),
+        Err(outcome) => fail(rt, context, worker, number, outcome),
     }
-    begin_waiting(rt, context, worker, asking, server);
+    true
 }
 
 // How a talk ends, where it does.
@@ -387,7 +421,7 @@ fn end_of<R: Wait + Clock>(
     talk: &mut Talk,
     check: bool,
     buffer: &mut [u8],
-) -> Option<Result<Vec<u8>, AskFault>>
+) -> Option<Result<Vec<u8>, Outcome>>
     ensures { IfSome result (λ end. IfOk end (λ v. length v.items < 2 ^ 16)) }
 {
     if talk.due
@@ -396,7 +430,7 @@ fn end_of<R: Wait + Clock>(
         return Some(end);
     }
     if check && common.moment(rt).saturating_sub(talk.moment) >= TCP_WAIT_MS {
-        return Some(Err(AskFault::Silent));
+        return Some(Err(failed(AskFault::Silent)));
     }
     None
 }

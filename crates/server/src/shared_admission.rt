@@ -19,6 +19,7 @@ use std::hash::{DefaultHasher, Hasher};
 use std::sync::atomic::{AtomicBool, Ordering};
 use std::sync::{Mutex, MutexGuard, Wait};
 use typed::Parsed;
+use wire::Via;
 
 // Bytes of a header, and of a type and a class.
 const HEADER: usize = 12;
@@ -271,16 +272,35 @@ impl SharedAdmission {
         next
     }
 
-    /// Lets time pass: who is open or waits for too long leaves. How many were dropped that waited.
-    pub fn pass_time<R: Wait>(&self, rt: &R, now: u64) -> u64 {
+    /// Lets time pass: who is open or waits for too long leaves. How many were dropped that waited, and the streams of
+    /// such; where memory is refused, not all of these.
+    pub fn pass_time<R: Wait>(&self, rt: &R, now: u64) -> (u64, Vec<u64>) {
         let mut admission = self.admission.lock(rt);
         for _ in 0..PLACES {
             if !admission.expire(now) {
                 break;
             }
         }
+        let streams = late_streams(self.alloc, &admission, now);
         let late = admission.drop_late(now) as u64;
         self.note_called(&admission);
-        late
+        (late, streams)
     }
+}
+
+// The streams on which those questions came that have waited for too long, one for each question.
+fn late_streams(alloc: Global, admission: &Admission<Query>, now: u64) -> Vec<u64> {
+    let mut streams = Vec::new(alloc);
+    for place in 0..admission.waiting() {
+        if let Some(held) = admission.waits_at(place)
+            && held.is_late(now)
+            && let Asker {
+                client,
+                way: Via::Tcp,
+            } = held.payload.asker
+        {
+            let _ = streams.push(client);
+        }
+    }
+    streams
 }

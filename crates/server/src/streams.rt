@@ -123,9 +123,12 @@ fn hand_out<R: Wait + Clock>(rt: &R, common: &Common<'_>, places: &mut Places) {
     }
 }
 
-// Puts a reply on its stream.
+// Puts a reply on its stream; where there will be none, that is to end.
 fn put_reply(places: &mut Places, now: u64, reply: StreamReply) {
-    places.reply(reply.client, now, reply.bytes.as_slice());
+    match &reply.bytes {
+        Some(bytes) => places.reply(reply.client, now, bytes.as_slice()),
+        None => places.close(reply.client),
+    }
 }
 
 // Writes and reads the stream at this key where there is something to do, and puts the questions that came. Where it is
