@@ -60,7 +60,7 @@ fn shown_action<A: Allocator>(sends: &mut Vec<Sent<A>, A>, action: Action<A>) ->
     }
 }
 
-// All that comes out of the resolver's step as it is shown; there is room for one ask more.
+/// All that comes out of the resolver's step as it is shown; there is room for one ask more.
 pub fn shown<A: Allocator>(sends: &mut Vec<Sent<A>, A>, actions: Actions<A>) -> SimActions<A>
     requires { vec_len sends.old < vec_capacity sends.old }
     ensures shown { result ≡ numbered (length sends.old.items) actions }

@@ -32,7 +32,7 @@ impl<A: Heap> BoxedReading<A> {
     }
 }
 
-// The reading, if there is one, moved to memory of its own.
+/// The reading, if there is one, moved to memory of its own. Refused where no memory is left.
 pub fn boxed_reading<A: Heap>(
     alloc: A,
     reading: Option<Reading<A>>,
