@@ -7,7 +7,8 @@ use engine::{Config, Core, Settings};
 use memory::Heap;
 use worlds::World;
 
-/// A resolver that is set so, holds the world's local zones and begins at its hints. Refused as `Core::new` refuses.
+/// A resolver that is set so, holds the world's local zones and begins at its hints. Refused where
+/// the settings are not allowed, and out of memory.
 pub fn resolver_of<A: Heap>(
     alloc: A,
     world: &World<A>,
