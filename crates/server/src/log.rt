@@ -50,6 +50,8 @@ struct Troubles {
     foreign: u64,
     descriptors: u64,
     sockets: u64,
+    memory: u64,
+    dropped: u64,
 }
 
 // Nothing went wrong.
@@ -57,6 +59,8 @@ const NONE: Troubles = Troubles {
     foreign: 0,
     descriptors: 0,
     sockets: 0,
+    memory: 0,
+    dropped: 0,
 };
 
 impl Troubles {
@@ -66,6 +70,8 @@ impl Troubles {
             foreign: tally.value(Counter::ForeignDatagram),
             descriptors: sum_of(tally, &WITHOUT_DESCRIPTOR),
             sockets: sum_of(tally, &FAILED_SOCKETS),
+            memory: tally.value(Counter::RefusedMemory),
+            dropped: tally.value(Counter::DroppedQuery),
         }
     }
 }
@@ -148,24 +154,7 @@ impl Log {
                 "resolverd: warning: within a minute {most} queries were open at once; 1,024 may be\n"
             ));
         }
-        let Troubles {
-            foreign,
-            descriptors,
-            sockets,
-        } = self.logged;
-        tell(
-            alloc,
-            "datagrams repeated no open ask, as a forger's do",
-            foreign,
-            now.foreign,
-        );
-        tell(
-            alloc,
-            "sockets had no descriptor",
-            descriptors,
-            now.descriptors,
-        );
-        tell(alloc, "calls at sockets failed", sockets, now.sockets);
+        tell_all(alloc, self.logged, now);
         self.most_open = 0;
         self.logged = now;
     }
@@ -222,6 +211,20 @@ fn put<E: Drop>(line: Result<String, E>) {
     if let Ok(line) = line {
         let _ = libc::write(STDERR, line.as_bytes());
     }
+}
+
+// Logs what went wrong more often than before, a line a kind.
+fn tell_all(alloc: Global, before: Troubles, now: Troubles) {
+    let foreign = "datagrams repeated no open ask, as a forger's do";
+    tell(alloc, foreign, before.foreign, now.foreign);
+    let descriptors = "sockets had no descriptor";
+    tell(alloc, descriptors, before.descriptors, now.descriptors);
+    let sockets = "calls at sockets failed";
+    tell(alloc, sockets, before.sockets, now.sockets);
+    let memory = "growths of memory were refused";
+    tell(alloc, memory, before.memory, now.memory);
+    let dropped = "queries of clients were dropped in admission";
+    tell(alloc, dropped, before.dropped, now.dropped);
 }
 
 // Logs how many there are more than before, where there are more.
