@@ -6,7 +6,7 @@ PROGRAM = crates/resolverd
 BUILT = $(PROGRAM)/out/resolverd
 
 # The words of the example: which zone, its file, and what is asked.
-QUESTION = ask lab.example. $(CURDIR)/examples/zones/lab.zone x.lab.example. TXT
+QUESTION = ask lab.example. "$(CURDIR)/examples/zones/lab.zone" x.lab.example. TXT
 
 .PHONY: ask prove-program serve hints bench test turned install deb kit built
 
@@ -24,16 +24,16 @@ prove-program: kit
 
 # Says where there is no proved program yet.
 built:
-	@test -x $(BUILT) || { echo "there is no proved program: make prove-program builds it" >&2; exit 2; }
+	@test -x "$(BUILT)" || { echo "there is no proved program: make prove-program builds it" >&2; exit 2; }
 
 # Runs the proved program as a resolver for this machine alone, at 127.0.0.1 port 5300, until it is stopped:
 # `dig @127.0.0.1 -p 5300 example.org` asks it.
 serve: built
-	cd examples/serve && $(CURDIR)/$(BUILT) serve resolverd.conf
+	cd examples/serve && "$(CURDIR)/$(BUILT)" serve resolverd.conf
 
 # Writes the root's addresses of a root hints file, HINTS=FILE or Debian's, into the files that are shipped.
 hints:
-	tools/hints $(or $(HINTS),/usr/share/dns/root.hints) examples/serve/resolverd.conf examples/dnsdist/one.conf \
+	tools/hints "$(or $(HINTS),/usr/share/dns/root.hints)" examples/serve/resolverd.conf examples/dnsdist/one.conf \
 	    examples/dnsdist/two.conf
 
 # How long the libraries' calls take, the dearest steps that strangers can bring about, and the server of the program:
@@ -54,6 +54,7 @@ test: kit
 	tools/references
 	tools/proved --check
 	tools/heads
+	tools/prose
 	tools/turned --texts
 	tools/prove
 	tools/examples
@@ -67,16 +68,16 @@ test: kit
 # Proves the libraries, and tries the edits of single functions, which the gate leaves out: of all crates, or with
 # SINCE=COMMIT of those that differ from that commit's.
 turned:
-	$(if $(SINCE),tools/turned --since $(SINCE),tools/prove --turned)
+	$(if $(SINCE),tools/turned --since "$(SINCE)",tools/prove --turned)
 
 # Puts the program that was built to $(PREFIX)/bin, and its manual pages beside it. It builds nothing.
 install: built
-	install -d $(DESTDIR)$(PREFIX)/bin
-	install -m 755 $(BUILT) $(DESTDIR)$(PREFIX)/bin/resolverd
-	install -d $(DESTDIR)$(PREFIX)/share/man/man8
-	install -m 644 man/resolverd.8 $(DESTDIR)$(PREFIX)/share/man/man8/resolverd.8
-	install -d $(DESTDIR)$(PREFIX)/share/man/man5
-	install -m 644 man/resolverd.conf.5 $(DESTDIR)$(PREFIX)/share/man/man5/resolverd.conf.5
+	install -d "$(DESTDIR)$(PREFIX)/bin"
+	install -m 755 "$(BUILT)" "$(DESTDIR)$(PREFIX)/bin/resolverd"
+	install -d "$(DESTDIR)$(PREFIX)/share/man/man8"
+	install -m 644 man/resolverd.8 "$(DESTDIR)$(PREFIX)/share/man/man8/resolverd.8"
+	install -d "$(DESTDIR)$(PREFIX)/share/man/man5"
+	install -m 644 man/resolverd.conf.5 "$(DESTDIR)$(PREFIX)/share/man/man5/resolverd.conf.5"
 
 # Makes a Debian package of the program that was built, in crates/resolverd/out. It builds no program, and refuses one that
 # is older than its sources.
