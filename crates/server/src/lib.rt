@@ -19,7 +19,8 @@
 //! asks go, and which messages repeat an ask, is proved in `dispatch`, frames in `sockets`, the machine's one history
 //! in `book`, and which questions wait in `admission`. Each query that was read asks for admission (`StandsAs`), under
 //! a key that is a hash of what it asks (`query_key`). It is passed, held or dropped as admission says (`Enters`), and
-//! one of over 512 bytes is never held.
+//! one of over 512 bytes is never held. Whether an ask over TCP begins, waits or fails is a function of a few numbers
+//! (`turn_by`); of those that wait the first goes on whose server has a place.
 //! Not here: what the machine is (`engine`); lists of who may ask, and limits of how often.
 //!
 //! ```text
