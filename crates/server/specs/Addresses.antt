@@ -1,5 +1,6 @@
 -- Addresses of sockets.
-use Rattle.std.specs.Prelude.{◌≡◌, ◌⊎◌}
+use Rattle.std.specs.Prelude.{◌≡◌, ℕ, ◌⊎◌, List, [], ◌∷◌, ◌++◌, take}
+use Rattle.std.specs.Int.{w16, to_be_bytes}
 use Rattle.std.specs.Net.Addr.{ipv4_octets}
 use Rattle.std.specs.Net.Socket.{v4_ip, v4_port}
 use Rattle.std.specs.declared.net.socket_addr.SocketAddr.{SocketAddr}
@@ -20,3 +21,7 @@ IsElsewhere (V6 a) = Unit {0}
 abbrev pub IsBoundTo : SocketAddr → Endpoint → Type 0
 IsBoundTo address listen =
     (e : Endpoint) × IsAt address e × (e.address ≡ listen.address) × ((listen.port ≡ 0) ⊎ (e.port ≡ listen.port))
+
+-- These bytes begin with the family of IPv4, which is 2 in the machine's order, the port, and the address (ip(7)).
+abbrev pub IsWritten : List ℕ → Endpoint → Type 0
+IsWritten bytes e = take 8 bytes ≡ (2 ∷ 0 ∷ []) ++ to_be_bytes w16 e.port ++ (e.address).0

@@ -1,6 +1,6 @@
 //! The sockets of a server.
 ghost use Rattle.std.specs.Prelude.{◌≡◌, ◌↔◌, IsTrue, MatchOption};
-ghost use Rattle.server.specs.Addresses.{IsAt, IsBoundTo, IsElsewhere};
+ghost use Rattle.server.specs.Addresses.{IsAt, IsBoundTo, IsElsewhere, IsWritten};
 ghost use Rattle.server.specs.Waits.{IsSlice};
 
 use crate::log::Shown;
@@ -25,8 +25,14 @@ use std::{io, net};
 /// How long a loop waits at most, in milliseconds: so often the flag is seen.
 pub(crate) const SLICE_MS: u64 = 250;
 
-// How many bytes of datagrams that nobody took yet a socket holds, where the system allows it.
+// How many bytes of datagrams the clients' socket holds, of those that nobody took yet and of those that are not sent yet,
+// where the system allows it.
 const SOCKET_BUFFER_BYTES: u32 = 4_194_304;
+
+// Bytes of an address of any family (socket(7)), and of an IPv4 one (ip(7)).
+const ADDRESS_BYTES: usize = 128;
+
+const IPV4_ADDRESS_BYTES: u32 = 16;
 
 /// Bytes of a datagram at most: its length stands in 16 bits (RFC 768).
 pub(crate) const MOST_BYTES: usize = 65_535;
@@ -46,6 +52,17 @@ pub(crate) fn address_of(end: Endpoint) -> SocketAddr
     ensures { IsAt result end }
 {
     SocketAddr::V4(SocketAddrV4::new(Ipv4Addr::from_octets(end.address.0), end.port))
+}
+
+// An endpoint as the system takes it: the family, the port and the address (ip(7)).
+fn bytes_of_address(end: Endpoint) -> [u8; ADDRESS_BYTES]
+    ensures { IsWritten result end }
+{
+    let mut bytes = [0u8; ADDRESS_BYTES];
+    bytes[..2].copy_from_slice(&(c::AF_INET as u16).to_ne_bytes());
+    bytes[2..4].copy_from_slice(&end.port.to_be_bytes());
+    bytes[4..8].copy_from_slice(&end.address.0);
+    bytes
 }
 
 /// Who sent what a socket took. Sockets at IPv4 addresses hear of no other.
@@ -174,7 +191,7 @@ impl Ends {
         }
         clients.set_nonblocking(false)?;
         clients.set_read_timeout(Some(slice()))?;
-        set_receive_room(&clients);
+        set_rooms(&clients);
         listener.set_nonblocking(true)?;
         Ends::of(rt, alloc, clients, TcpListener::from_std(listener))
     }
@@ -219,6 +236,21 @@ impl Ends {
         if let Some(tally) = &self.tally {
             tally.count(outcome);
         }
+    }
+
+    /// Sends a client a datagram; whether it could be sent at once. Datagrams for a host of the network that does not
+    /// answer stand in the socket for seconds (arp(7)). Where they fill its room another is lost, and no loop waits.
+    pub(crate) fn reply(&self, to: Endpoint, bytes: &[u8]) -> bool {
+        let sent = unsafe {
+            c::sendto(
+                self.clients.as_raw_fd(),
+                bytes,
+                c::MSG_DONTWAIT,
+                &bytes_of_address(to),
+                IPV4_ADDRESS_BYTES,
+            )
+        };
+        sent >= 0
     }
 
     /// Where clients are served.
@@ -322,7 +354,7 @@ fn listener_at<R: Net>(rt: &R, clients: &UdpSocket) -> io::Result<TcpListener> {
 fn datagrams<R: Net>(rt: &R, end: Endpoint) -> io::Result<UdpSocket> {
     let socket = UdpSocket::bind(rt, address_of(end))?;
     socket.set_read_timeout(Some(slice()))?;
-    set_receive_room(&socket);
+    set_rooms(&socket);
     Ok(socket)
 }
 
@@ -340,9 +372,11 @@ pub(crate) fn receive_room(socket: &UdpSocket) -> Option<u32> {
     }
 }
 
-// Makes room for many datagrams. Where the system refuses it the socket keeps the room that it has.
-fn set_receive_room(socket: &UdpSocket) {
+// Makes room for many datagrams, in both directions. Where the system refuses it the socket keeps the room that it has.
+fn set_rooms(socket: &UdpSocket) {
     let mut value = [0u8; 16];
     value[..4].copy_from_slice(&SOCKET_BUFFER_BYTES.to_ne_bytes());
-    let _ = unsafe { c::setsockopt(socket.as_raw_fd(), c::SOL_SOCKET, c::SO_RCVBUF, &value, 4) };
+    let socket = socket.as_raw_fd();
+    let _ = unsafe { c::setsockopt(socket, c::SOL_SOCKET, c::SO_RCVBUF, &value, 4) };
+    let _ = unsafe { c::setsockopt(socket, c::SOL_SOCKET, c::SO_SNDBUF, &value, 4) };
 }

@@ -4,6 +4,8 @@ use crate::ends::{Ends, receive_room};
 use crate::tally::Tally;
 use counters::{AskFault, Counter, SocketFault, Way};
 use events::Endpoint;
+use libc::net as c;
+use libc::types::pollfd;
 use std::alloc::Global;
 use std::sync::Wait;
 
@@ -206,11 +208,23 @@ fn log_sizes(common: &Common<'_>, shown: Shown) {
     }
 }
 
-// Writes a line, where there was memory for it.
+// Writes a line, where there was memory for it and whoever reads the lines takes one at once: no loop waits for him.
 fn put<E: Drop>(line: Result<String, E>) {
-    if let Ok(line) = line {
+    if let Ok(line) = line
+        && takes_a_line()
+    {
         let _ = libc::write(STDERR, line.as_bytes());
     }
+}
+
+// Whether the standard error takes a line at once (poll(2)).
+fn takes_a_line() -> bool {
+    let mut descriptors = [pollfd {
+        fd: STDERR,
+        events: c::POLLOUT,
+        revents: 0,
+    }];
+    c::poll(&mut descriptors, 0) > 0
 }
 
 // Logs what went wrong more often than before, a line a kind.

@@ -1,5 +1,5 @@
 //! What goes out, by the sockets and the channels of a server.
-use crate::ends::{Ends, address_of};
+use crate::ends::Ends;
 use counters::{AskFault, Outcome, SocketFault, Way};
 use crossbeam_channel::Sender;
 use dispatch::{Carrier, Reach};
@@ -54,13 +54,8 @@ pub(crate) struct Outbox<'a, R> {
 // What can't be sent or handed on is lost, as a datagram on its way; but an ask over TCP that can't be made is told.
 impl<R: Wait + Clock> Carrier<Global> for Outbox<'_, R> {
     fn to_client(&mut self, to: Endpoint, bytes: &Bytes) {
-        let ends = self.ends;
-        if ends
-            .clients
-            .send_to(bytes.as_slice(), address_of(to))
-            .is_err()
-        {
-            ends.count(Outcome::SocketFailed(SocketFault::Send));
+        if !self.ends.reply(to, bytes.as_slice()) {
+            self.ends.count(Outcome::SocketFailed(SocketFault::Send));
         }
     }
 
