@@ -14,13 +14,12 @@
 //!
 //! Clients' questions pass the crate `admission` first, those in datagrams and those on streams alike.
 //!
-//! Promised: the loops are safe, and there is a ticket for each (`IsStaffed`). The actions of an event are those of one
-//! step of the machine on what was read of it, written (`IsPut`; `IsServed` of a client's message). Where replies and
-//! asks go, and which messages repeat an ask, is proved in `dispatch`, frames in `sockets`, the machine's one history
-//! in `book`, and which questions wait in `admission`. Each query that was read asks for admission (`StandsAs`), under
-//! a key that is a hash of what it asks (`query_key`). It is passed, held or dropped as admission says (`Enters`), and
-//! one of over 512 bytes is never held. Whether an ask over TCP begins, waits or fails is a function of a few numbers
-//! (`turn_by`); of those that wait the first goes on whose server has a place.
+//! Promised: the loops are safe, and there is a ticket for each (`IsStaffed`). An event's actions are those of one step
+//! of the machine on what was read of it, written (`IsPut`; `IsServed` of a client's message). Where replies and asks
+//! go, and which messages repeat an ask, is proved in `dispatch`, frames in `sockets`, the machine's history in `book`,
+//! which questions wait in `admission`. Each query asks for admission (`StandsAs`), under a hash of what it asks
+//! (`query_key`). It is passed, held or dropped as admission says (`Enters`), and never held where it has over 512
+//! bytes. Whether an ask over TCP begins, waits or fails is `turn_by`. The first that waits and has a place is next.
 //! Not here: what the machine is (`engine`); lists of who may ask, and limits of how often.
 //!
 //! ```text
