@@ -12,3 +12,6 @@ pub mod Entries
 pub mod Tallies
 pub mod Failures
 pub mod Crowds
+pub mod Arrivals
+pub mod Endings
+pub mod Sockets

@@ -1,5 +1,6 @@
 //! One stream of a client: its questions that are under way, and how long it may be silent.
-ghost use Rattle.std.specs.Prelude.{◌<◌, ◌≤◌, ◌^◌, IfSome, length};
+ghost use Rattle.std.specs.Prelude.{◌≡◌, ◌<◌, ◌≤◌, ◌^◌, ◌-◌, IfSome, length};
+ghost use Rattle.server.specs.Endings.{ends_by, gives_way_by, has_left_for, IsStateAt};
 
 use crate::framed_stream::{FramedStream, StreamFault};
 use dispatch::silence_before_yielding;
@@ -24,6 +25,57 @@ const WRITE_MS: u64 = 3_000;
 
 // How long replies are awaited for a client that has ended what it sends, in milliseconds.
 const LEFT_MS: u64 = 500;
+
+// What a stream shows at a moment, its times in milliseconds.
+#[derive(Clone, Copy)]
+struct StreamState {
+    failed: bool,
+    // Whether bytes of a reply are to be written, and for how long none was taken.
+    writes: bool,
+    untaken: u64,
+    // Whether replies are awaited.
+    awaits: bool,
+    // For how long no whole frame came and no reply went.
+    silence: u64,
+    // For how long its client has ended what it sends, if it has.
+    left: Option<u64>,
+    // Whether no more frames are taken.
+    closing: bool,
+}
+
+// Whether a stream that shows this is to end: where it failed, where nothing is under way and no more will come, and
+// where what is waited for has not come in time.
+fn ends_by(state: StreamState) -> bool
+    ensures { result ≡ ends_by state }
+{
+    if state.failed {
+        true
+    } else if state.writes {
+        state.untaken >= WRITE_MS
+    } else if state.awaits {
+        state.silence >= REPLY_MS || has_left_for(LEFT_MS, state.left)
+    } else {
+        state.silence >= IDLE_MS || state.closing || state.left.is_some()
+    }
+}
+
+// Whether its client has ended what it sends for so long.
+fn has_left_for(wanted: u64, left: Option<u64>) -> bool
+    ensures { result ≡ has_left_for wanted left }
+{
+    match left {
+        Some(left) => left >= wanted,
+        None => false,
+    }
+}
+
+// Whether another may take the place of a stream that shows this, where all of so many places are taken.
+fn gives_way_by(state: StreamState, places: u16) -> bool
+    ensures { result ≡ gives_way_by state places }
+{
+    let awaits = state.awaits || state.writes;
+    state.left.is_some() || state.silence >= silence_before_yielding(places, awaits)
+}
 
 /// One stream of a client.
 #[derive(Drop)]
@@ -127,26 +179,24 @@ impl ClientStream {
         self.due = true;
     }
 
-    /// Whether the stream is to end: where it failed, where nothing is under way and no more will come, and where what
-    /// is waited for has not come in time.
-    pub fn is_over(&self, now: u64) -> bool {
-        let silence = self.silence(now);
-        let over = if !self.stream.is_written() {
-            now.saturating_sub(self.taken) >= WRITE_MS
-        } else if self.awaited > 0 {
-            silence >= REPLY_MS || self.has_waited(now)
-        } else {
-            silence >= IDLE_MS || self.closing || self.left.is_some()
-        };
-        over || self.stream.fault().is_some()
+    // What it shows at this moment.
+    fn state_at(&self, now: u64) -> StreamState
+        ensures { IsStateAt self.now now result }
+    {
+        StreamState {
+            failed: self.stream.fault().is_some(),
+            writes: !self.stream.is_written(),
+            untaken: now.saturating_sub(self.taken),
+            awaits: self.awaited > 0,
+            silence: self.silence(now),
+            left: self.left.map(|left| now.saturating_sub(left)),
+            closing: self.closing,
+        }
     }
 
-    // Whether its client has ended what it sends for as long as replies are awaited then.
-    fn has_waited(&self, now: u64) -> bool {
-        match self.left {
-            Some(left) => now.saturating_sub(left) >= LEFT_MS,
-            None => false,
-        }
+    /// Whether the stream is to end.
+    pub fn is_over(&self, now: u64) -> bool {
+        ends_by(self.state_at(now))
     }
 
     /// Why it has failed, if it has.
@@ -155,13 +205,14 @@ impl ClientStream {
     }
 
     /// For how long it has been silent, in milliseconds: a byte that ends no frame counts for nothing.
-    pub fn silence(&self, now: u64) -> u64 {
+    pub fn silence(&self, now: u64) -> u64
+        ensures { result ≡ now - self.now.since }
+    {
         now.saturating_sub(self.since)
     }
 
     /// Whether another may take its place, where all of so many places are taken.
     pub fn yields(&self, now: u64, places: u16) -> bool {
-        let awaits = self.awaited > 0 || !self.stream.is_written();
-        self.left.is_some() || self.silence(now) >= silence_before_yielding(places, awaits)
+        gives_way_by(self.state_at(now), places)
     }
 }

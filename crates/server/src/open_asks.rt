@@ -3,6 +3,7 @@ ghost use Rattle.std.specs.Prelude.{◌≡◌, ◌≤◌, IfSome, length, take};
 ghost use Rattle.counters.specs.declared.outcome.Outcome.TheVariants.{AskFailed};
 ghost use Rattle.counters.specs.declared.labels.Way.TheVariants as way;
 ghost use Rattle.dispatch.specs.Repeats.{Repeats};
+ghost use Rattle.server.specs.Sockets.{most_for};
 
 use crate::ends::{address_of, is_early};
 use crate::poller::Poller;
@@ -281,7 +282,7 @@ fn oldest(open: &Slab<OpenAsk>) -> Option<usize> {
     oldest.map(|(key, _)| key)
 }
 
-// How many asks may be open: as many as leave descriptors for everything else, or half of a few.
+// How many asks may be open.
 fn most_open() -> usize {
     let mut limit = rlimit {
         rlim_cur: 0,
@@ -290,7 +291,14 @@ fn most_open() -> usize {
     if libc::getrlimit(libc::RLIMIT_NOFILE, &mut limit) != 0 {
         return MOST_ASKS as usize;
     }
-    let descriptors = limit.rlim_cur;
+    most_for(limit.rlim_cur)
+}
+
+// How many, where the process may have so many descriptors: as many as leave some for everything else, or half of a
+// few.
+fn most_for(descriptors: u64) -> usize
+    ensures { result ≡ most_for descriptors }
+{
     let most = descriptors
         .saturating_sub(DESCRIPTORS_FOR_OTHERS)
         .max(descriptors / 2);

@@ -1,5 +1,6 @@
 //! The places of clients' streams.
 ghost use Rattle.std.specs.Prelude.{◌≡◌, ◌<◌, ◌^◌, length};
+ghost use Rattle.server.specs.Endings.{yielder_by, room_by};
 ghost use Rattle.server.specs.Failures.{stream_outcome};
 
 use crate::client_stream::ClientStream;
@@ -33,12 +34,49 @@ pub(crate) struct Places {
 }
 
 // What comes of a stream that is to have a place.
+#[derive(Clone, Copy)]
 enum Room {
     Free,
     // All places are taken, and none of their streams has to give way.
     Taken,
     // Its address has as many as it may, and another's stream could have a place.
     TooMany,
+}
+
+// Whose stream gives way to one that is to have a place.
+#[derive(Clone, Copy)]
+enum Yielder {
+    // There is a place.
+    Nobody,
+    // All places are taken.
+    Anyone,
+    // Its address has its share.
+    ItsOwn,
+}
+
+// Whose stream gives way to one of an address that has so many, where so many of the places are taken.
+fn yielder_by(has: usize, taken: usize, places: u16) -> Yielder
+    ensures { result ≡ yielder_by has taken places }
+{
+    let share = usize::from((places / SHARES).max(1));
+    if has >= share {
+        Yielder::ItsOwn
+    } else if taken < usize::from(places) {
+        Yielder::Nobody
+    } else {
+        Yielder::Anyone
+    }
+}
+
+// What comes of a stream to which none gave way, by whether all places are taken and anyone's stream would.
+fn room_by(is_full: bool, one_yields: bool) -> Room
+    ensures { result ≡ room_by is_full one_yields }
+{
+    if is_full && !one_yields {
+        Room::Taken
+    } else {
+        Room::TooMany
+    }
 }
 
 impl Places {
@@ -135,19 +173,20 @@ impl Places {
             .iter()
             .filter(|(_, client)| client.address == address)
             .count();
-        let share = usize::from((self.most / SHARES).max(1));
-        let is_full = self.open.len() >= usize::from(self.most);
-        if has < share && !is_full {
-            return Room::Free;
-        }
-        let whose = if has < share { None } else { Some(address) };
+        let whose = match yielder_by(has, self.open.len(), self.most) {
+            Yielder::Nobody => return Room::Free,
+            Yielder::Anyone => None,
+            Yielder::ItsOwn => Some(address),
+        };
         match self.most_silent(whose, now) {
             Some(key) => {
                 self.open.try_remove(key);
                 Room::Free
             }
-            None if is_full && self.most_silent(None, now).is_none() => Room::Taken,
-            None => Room::TooMany,
+            None => {
+                let is_full = self.open.len() >= usize::from(self.most);
+                room_by(is_full, is_full && self.most_silent(None, now).is_some())
+            }
         }
     }
 

@@ -1,5 +1,7 @@
 //! What a server counts, where its file asks for it.
-ghost use Rattle.std.specs.Prelude.{◌≡◌};
+ghost use Rattle.std.specs.Prelude.{◌≡◌, ◌<◌, ◌≤◌, ◌⊎◌, MatchOption, [], ◌∷◌, ◌++◌, length, vec_capacity};
+ghost use Rattle.std.specs.List.{position};
+ghost use Rattle.server.specs.Arrivals.{is_of, may_be_open, staying, IsTaken, IsUnknown};
 ghost use Rattle.server.specs.Tallies.{AsksFor, byte_of, id_in, reply_in};
 
 use crate::query::{Asker, Query};
@@ -153,26 +155,56 @@ impl Tally {
 }
 
 // Whether a reply may still come to a query that was noted.
-fn may_be_open(query: &Arrival, now: u64) -> bool {
+fn may_be_open(query: &Arrival, now: u64) -> bool
+    ensures { result ≡ may_be_open now query.now }
+{
     now.saturating_sub(query.moment) < NOTED_MS
 }
 
-// One query more that is open.
-fn note(open: &mut Vec<Arrival>, came: Arrival, now: u64) {
+// Where as many are noted as may be, those leave whose reply can't come any more.
+fn make_room(open: &mut Vec<Arrival>, now: u64)
+    ensures items { open.new.items ≡ staying now open.old.items }
+    ensures capacity { vec_capacity open.new ≡ vec_capacity open.old }
+{
     if open.len() >= MAX_OPEN_QUERIES {
         open.retain(|query| may_be_open(query, now));
     }
+}
+
+// One query more that is open.
+fn note(open: &mut Vec<Arrival>, came: Arrival, now: u64)
+    ensures either { (open.new.items ≡ staying now open.old.items) ⊎ (open.new.items ≡ staying now open.old.items ++ came ∷ []) }
+    ensures full { 1_024 ≤ length (staying now open.old.items) → open.new.items ≡ staying now open.old.items }
+    ensures room { length (staying now open.old.items) < 1_024 → length (staying now open.old.items) < vec_capacity open.old → open.new.items ≡ staying now open.old.items ++ came ∷ [] }
+{
+    make_room(open, now);
     if open.len() < MAX_OPEN_QUERIES {
         let _ = open.push(came);
     }
 }
 
 // When the query came of this client with this ID, which is open no more.
-fn take(open: &mut Vec<Arrival>, asker: Asker, id: u16) -> Option<u64> {
-    let place = open
-        .iter()
-        .position(|query| query.asker == asker && query.id == id)?;
-    Some(open.swap_remove(place).moment)
+fn take(open: &mut Vec<Arrival>, asker: Asker, id: u16) -> Option<u64>
+    ensures { MatchOption result (IsUnknown asker id open.old.items open.new.items) (IsTaken asker id open.old.items open.new.items) }
+{
+    match place_of(open, asker, id) {
+        Some(place) => Some(open.swap_remove(place).moment),
+        None => None,
+    }
+}
+
+// Where the first stands of this client with this ID.
+fn place_of(open: &Vec<Arrival>, asker: Asker, id: u16) -> Option<usize>
+    ensures { result ≡ position (is_of asker id) open.now.items }
+{
+    open.iter().position(|query| is_of(query, asker, id))
+}
+
+// Whether a query is this client's, with this ID.
+fn is_of(query: &Arrival, asker: Asker, id: u16) -> bool
+    ensures { result ≡ is_of asker id query.now }
+{
+    query.asker == asker && query.id == id
 }
 
 // What the header of a reply says (RFC 1035, section 4.1.1). Its cause is not in it.
