@@ -165,20 +165,29 @@ impl Places {
         true
     }
 
-    // Whether there is a place for a stream of this address. If need be the stream gives way that has been silent
-    // longest, of this address where that has its share.
-    fn room_for(&mut self, address: Addr, now: u64) -> Room {
-        let has = self
-            .open
+    // How many streams this address has.
+    fn count_of(&self, address: Addr) -> usize {
+        self.open
             .iter()
             .filter(|(_, client)| client.address == address)
-            .count();
+            .count()
+    }
+
+    // Whether there is a place for a stream of this address. If need be the stream gives way that has been silent
+    // longest, of this address where that has its share. To an address that has none gives way one of those that have
+    // the most, two at least, however short its silence.
+    fn room_for(&mut self, address: Addr, now: u64) -> Room {
+        let has = self.count_of(address);
         let whose = match yielder_by(has, self.open.len(), self.most) {
             Yielder::Nobody => return Room::Free,
             Yielder::Anyone => None,
             Yielder::ItsOwn => Some(address),
         };
-        match self.most_silent(whose, now) {
+        let yielding = match self.most_silent(whose, now) {
+            None if has == 0 => self.most_silent_of_most(now),
+            found => found,
+        };
+        match yielding {
             Some(key) => {
                 self.open.try_remove(key);
                 Room::Free
@@ -202,6 +211,20 @@ impl Places {
             }
         }
         found.map(|(key, _)| key)
+    }
+
+    // Of the streams whose address has the most, two at least, the one that has been silent longest.
+    fn most_silent_of_most(&self, now: u64) -> Option<usize> {
+        let mut found: Option<(usize, usize, u64)> = None;
+        for (key, client) in self.open.iter() {
+            let (count, silence) = (self.count_of(client.address), client.silence(now));
+            let is_next = found.is_none_or(|(_, most, longest)| count > most
+                || (count == most && silence > longest));
+            if count > 1 && is_next {
+                found = Some((key, count, silence));
+            }
+        }
+        found.map(|(key, _, _)| key)
     }
 
     // Gives the stream a place.
