@@ -58,10 +58,18 @@ pub(crate) fn address_of(end: Endpoint) -> SocketAddr
 fn bytes_of_address(end: Endpoint) -> [u8; ADDRESS_BYTES]
     ensures { IsWritten result end }
 {
+    let [family, of_others] = (c::AF_INET as u16).to_ne_bytes();
+    let [high, low] = end.port.to_be_bytes();
+    let [first, second, third, fourth] = end.address.0;
     let mut bytes = [0u8; ADDRESS_BYTES];
-    bytes[..2].copy_from_slice(&(c::AF_INET as u16).to_ne_bytes());
-    bytes[2..4].copy_from_slice(&end.port.to_be_bytes());
-    bytes[4..8].copy_from_slice(&end.address.0);
+    bytes[0] = family;
+    bytes[1] = of_others;
+    bytes[2] = high;
+    bytes[3] = low;
+    bytes[4] = first;
+    bytes[5] = second;
+    bytes[6] = third;
+    bytes[7] = fourth;
     bytes
 }
 
@@ -245,7 +253,7 @@ impl Ends {
             c::sendto(
                 self.clients.as_raw_fd(),
                 bytes,
-                c::MSG_DONTWAIT,
+                c::MSG_NOSIGNAL | c::MSG_DONTWAIT,
                 &bytes_of_address(to),
                 IPV4_ADDRESS_BYTES,
             )
