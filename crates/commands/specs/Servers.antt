@@ -1,5 +1,5 @@
 -- What is printed of a server, which resolver it is, and why there is none.
-use Rattle.std.specs.Prelude.{◌≡◌, ◌⊎◌, ℕ, List, [], ◌∷◌, ◌++◌, Option, Some, None, IfSome, Ok, codes, decimal, map}
+use Rattle.std.specs.Prelude.{◌≡◌, ◌⊎◌, ℕ, Bool, true, false, List, [], ◌∷◌, ◌++◌, Option, Some, None, IfSome, Result, Ok, Err, codes, decimal, map}
 use Rattle.std.specs.Borrow.{Bor}
 use Rattle.rdata.specs.Text.{ipv4_text}
 use Rattle.rdata.specs.declared.addr.Addr.{Addr}
@@ -9,13 +9,15 @@ use Rattle.config.specs.Configs.{Config, End, LocalZone, config_of}
 use Rattle.runs.specs.States.{State}
 use Rattle.dispatch.specs.Blocks.{IsReach}
 use Rattle.server.specs.declared.context.Bounds.{Bounds}
+use Rattle.server.specs.declared.fault.ServeError.{ServeError}
+use Rattle.server.specs.declared.fault.ServeError.TheVariants as loops
 use Rattle.server_start.specs.Resolvers.{IsDescribed}
 use Rattle.commands.specs.Faults.{IsReported}
 use Rattle.commands.specs.Scripts.{HoldsNo}
 use Rattle.commands.specs.Texts.{MayHold}
 use Rattle.commands.specs.Zones.{HoldsZone, HoldsNoZone}
 use Rattle.commands.specs.declared.fault.Fault.{Fault}
-use Rattle.commands.specs.declared.fault.Fault.TheVariants.{Unreadable, Settings, Memory, Socket}
+use Rattle.commands.specs.declared.fault.Fault.TheVariants.{Unreadable, Settings, Memory, Socket, Threads}
 
 -- The text is read as the file of a server that listens there.
 pub record Describes (text : List ℕ) (at : End) : Type 0 where
@@ -153,6 +155,20 @@ pub record FailsToStart (held : List ℕ → Option (Option (List ℕ))) (path :
 abbrev pub IsNoServer : (List ℕ → Option (Option (List ℕ))) → List ℕ → Fault → Type 0
 IsNoServer held path f = HoldsNo config_of held path f ⊎ FailsToStart held path f
 
--- A server was run: it ended, or the line of a fault was written.
-abbrev pub IsServed : Option (List ℕ) → Option (List ℕ) → ℕ → Type 0
-IsServed err err2 n = ((n ≡ 0) × (err2 ≡ err)) ⊎ ((f : Fault) × IsReported f err err2 n)
+-- ---- The server that was run.
+
+-- The fault of a server that can't be run.
+abbrev pub serve_fault : ServeError → Fault
+serve_fault loops.Memory = Memory
+serve_fault loops.Clock = Threads
+serve_fault loops.Threads = Threads
+
+-- Of a server that ended nothing was written, and of one that can't be run the line of its fault.
+abbrev pub IsToldOf : Result Unit ServeError → Option (List ℕ) → Option (List ℕ) → ℕ → Type 0
+IsToldOf (Ok _) err err2 n = (n ≡ 0) × (err2 ≡ err)
+IsToldOf (Err e) err err2 n = IsReported (serve_fault e) err err2 n
+
+-- A server was run where its sockets are bound, and what came of it was told; where none are, that was told.
+abbrev pub IsServed : Bool → Option (List ℕ) → Option (List ℕ) → ℕ → Type 0
+IsServed true err err2 n = (done : Result Unit ServeError) × IsToldOf done err err2 n
+IsServed false err err2 n = IsReported Socket err err2 n

@@ -9,8 +9,8 @@ use std::time::{Clock, Duration, Instant};
 use std::{io, thread};
 use trace::Peers;
 
-// Bytes of a datagram that are looked at: without EDNS a reply in one has 512 (RFC 1035, section 2.3.4).
-const DATAGRAM_BYTES: usize = 4_096;
+// Bytes of a datagram at most: its length stands in 16 bits (RFC 768).
+const DATAGRAM_BYTES: usize = 65_535;
 
 // Bytes of a frame at most: its length stands in 16 bits (RFC 1035, section 4.2.2).
 const FRAME_BYTES: usize = 65_535;

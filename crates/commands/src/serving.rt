@@ -1,5 +1,6 @@
 //! A server that was started, run.
-ghost use Rattle.commands.specs.Servers.{IsServed};
+ghost use Rattle.std.specs.Option.{is_some};
+ghost use Rattle.commands.specs.Servers.{IsServed, IsToldOf};
 
 use crate::fault::Fault;
 use crate::host::Machine;
@@ -20,7 +21,7 @@ pub fn serve_at<
     R: Net<Listener = TcpListener, Stream = TcpStream> + Threads + Wait + Clock + Sync,
     E: Write,
 >(machine: &Machine<'_, R>, server: Server<Global>, err: &mut E) -> u8
-    ensures { IsServed (E.contents err.old) (E.contents err.new) result }
+    ensures { IsServed (is_some machine.now.ends) (E.contents err.old) (E.contents err.new) result }
 {
     match &machine.ends {
         Some(ends) => told(run(machine.runtime, machine.alloc, ends, server), err),
@@ -43,9 +44,9 @@ fn run<R: Net<Listener = TcpListener, Stream = TcpStream> + Threads + Wait + Clo
     server_start::run_server(rt, alloc, server.into_core(), ends, bounds, &stop)
 }
 
-// The exit status of a server that ended so.
+// The exit status of a server that ended so: 0, or that of the fault whose line is printed.
 fn told<E: Write>(done: Result<(), ServeError>, err: &mut E) -> u8
-    ensures { IsServed (E.contents err.old) (E.contents err.new) result }
+    ensures { IsToldOf done (E.contents err.old) (E.contents err.new) result }
 {
     match done {
         Ok(()) => 0,
