@@ -177,11 +177,12 @@ fn bound<'t, A: Heap, H: Host>(
     ensures bound { IfOk result (λ _. IsTrue (H.bound host.new)) }
 {
     match host.open(listen, shown) {
-        Some(_) => Ok(summary),
-        None => {
+        Ok(Some(_)) => Ok(summary),
+        Ok(None) => {
             let words = unbound_words(alloc, listen, shown.metrics, host);
             Err(told(alloc, Fault::Socket, words))
         }
+        Err(Starved) => Err(starved(alloc)),
     }
 }
 

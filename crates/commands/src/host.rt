@@ -1,11 +1,12 @@
 //! The machine under a server: where its random bytes and its sockets come from. Tests put another in its place.
-ghost use Rattle.std.specs.Prelude.{◌≡◌, ◌⊎◌, Bool, true, IfSome, IsTrue};
+ghost use Rattle.std.specs.Prelude.{◌≡◌, ◌⊎◌, Bool, true, None, IfOk, IfSome, IsTrue};
+ghost use Rattle.std.specs.Option.{is_some};
 
 use events::Endpoint;
 use memory::{Heap, Starved};
 use server::{Ends, Shown};
 use std::alloc::Global;
-use std::io::Read;
+use std::io::{ErrorKind, Read};
 use std::net::{Ipv4Addr, Net, SocketAddr, SocketAddrV4, TcpListener, TcpStream, UdpSocket};
 use std::rt::{Env, Files};
 use std::time::Instant;
@@ -22,9 +23,9 @@ pub trait Host {
 
     /// Binds the sockets of a server, and shows what its file asks for: the port at which clients find it, or
     /// none where an address can't be bound.
-    fn open(&mut self, listen: Endpoint, shown: Shown) -> Option<u16>
-        ensures port { IfSome result (λ port. (port ≡ listen.port) ⊎ (listen.port ≡ 0)) }
-        ensures bound { IfSome result (λ _. IsTrue (bound self.new)) };
+    fn open(&mut self, listen: Endpoint, shown: Shown) -> Result<Option<u16>, Starved>
+        ensures port { IfOk result (λ found. IfSome found (λ port. (port ≡ listen.port) ⊎ (listen.port ≡ 0))) }
+        ensures bound { IfOk result (λ found. IfSome found (λ _. IsTrue (bound self.new))) };
 
     /// Why a socket can't be bound there, in the words of the system; none where it can be.
     fn reason<A: Heap>(
@@ -57,6 +58,23 @@ impl<'a, R> Machine<'a, R> {
             ends: None,
             datagrams: None,
             began: None,
+        }
+    }
+
+    // Keeps the sockets of a server, where the port at which clients find it is known.
+    fn kept(&mut self, ends: Ends, listen: Endpoint) -> Option<u16>
+        ensures port { IfSome result (λ port. (port ≡ listen.port) ⊎ (listen.port ≡ 0)) }
+        ensures bound { IfSome result (λ _. IsTrue (is_some self.new.ends)) }
+    {
+        match port_of(&ends, listen) {
+            Some(port) => {
+                self.ends = Some(ends);
+                Some(port)
+            }
+            None => {
+                drop(ends);
+                None
+            }
         }
     }
 }
@@ -109,6 +127,16 @@ fn telling<R: Env + AllocGlobal>(rt: &R, ends: Ends) -> Ends {
     }
 }
 
+// What comes of sockets that are not opened: no port, unless no memory was left.
+fn unopened(error: io::Error) -> Result<Option<u16>, Starved>
+    ensures { IfOk result (λ found. found ≡ None) }
+{
+    match error.kind() {
+        ErrorKind::OutOfMemory => Err(Starved),
+        _ => Ok(None),
+    }
+}
+
 // The port at which clients find a server.
 fn port_of(ends: &Ends, listen: Endpoint) -> Option<u16>
     ensures { IfSome result (λ port. (port ≡ listen.port) ⊎ (listen.port ≡ 0)) }
@@ -136,17 +164,10 @@ where
         Some(seed)
     }
 
-    fn open(&mut self, listen: Endpoint, shown: Shown) -> Option<u16> {
-        let ends = opened(self.runtime, self.alloc, listen, shown).ok()?;
-        match port_of(&ends, listen) {
-            Some(port) => {
-                self.ends = Some(ends);
-                Some(port)
-            }
-            None => {
-                drop(ends);
-                None
-            }
+    fn open(&mut self, listen: Endpoint, shown: Shown) -> Result<Option<u16>, Starved> {
+        match opened(self.runtime, self.alloc, listen, shown) {
+            Ok(ends) => Ok(self.kept(ends, listen)),
+            Err(error) => unopened(error),
         }
     }
 

@@ -305,7 +305,7 @@ fn bind<A: Heap, H: Host>(
     ensures err { IfErr result IsUnbound }
     ensures bound { IfOk result (λ _. IsTrue (H.bound host.new)) }
 {
-    match host.open(listen, shown) {
+    match host.open(listen, shown)? {
         Some(port) => Ok(line(alloc, listen, port)?),
         None => Err(Fault::Socket),
     }

@@ -15,8 +15,8 @@ impl Host for Nowhere {
         None
     }
 
-    fn open(&mut self, _listen: Endpoint, _shown: Shown) -> Option<u16> {
-        None
+    fn open(&mut self, _listen: Endpoint, _shown: Shown) -> Result<Option<u16>, Starved> {
+        Ok(None)
     }
 
     fn reason<A: Heap>(

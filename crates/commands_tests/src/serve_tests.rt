@@ -33,10 +33,10 @@ impl Texts for Folder {
     }
 }
 
-// A place that has this port free, and random bytes, or not.
+// A place that has this port free, or no memory for sockets, and random bytes, or not.
 #[derive(Clone, Copy)]
 struct Place {
-    port: Option<u16>,
+    port: Result<Option<u16>, Starved>,
     seed: Option<[u8; 32]>,
 }
 
@@ -45,8 +45,9 @@ impl Host for Place {
         self.seed
     }
 
-    fn open(&mut self, listen: Endpoint, _shown: Shown) -> Option<u16> {
-        if listen.port == 0 { self.port } else { None }
+    fn open(&mut self, listen: Endpoint, _shown: Shown) -> Result<Option<u16>, Starved> {
+        let port = self.port?;
+        if listen.port == 0 { Ok(port) } else { Ok(None) }
     }
 
     fn reason<A: Heap>(
@@ -134,17 +135,22 @@ fn first_wrong<R: Threads + Wait + AllocGlobal + Sync>(
 }
 
 const FREE: Place = Place {
-    port: Some(4242),
+    port: Ok(Some(4242)),
     seed: Some([7; 32]),
 };
 
 const BUSY: Place = Place {
-    port: None,
+    port: Ok(None),
+    seed: Some([7; 32]),
+};
+
+const WITHOUT_MEMORY: Place = Place {
+    port: Err(Starved),
     seed: Some([7; 32]),
 };
 
 const WITHOUT_SEED: Place = Place {
-    port: Some(4242),
+    port: Ok(Some(4242)),
     seed: None,
 };
 
@@ -210,6 +216,13 @@ const STARTS: &[Start] = &[
         "error: conf:1: file 1\n",
     ),
     ("listen 127.0.0.1 0\n", BUSY, 4, "", "error: socket\n"),
+    (
+        "listen 127.0.0.1 0\n",
+        WITHOUT_MEMORY,
+        3,
+        "",
+        "error: memory\n",
+    ),
     // Random bytes may be wanting, and are not needed where the file has them.
     (
         "listen 127.0.0.1 0\n",
@@ -269,6 +282,13 @@ const CHECKS: &[Start] = &[
         4,
         "listen 127.0.0.1 0: UDP: busy\n",
         "error: socket\n",
+    ),
+    (
+        "listen 127.0.0.1 0\n",
+        WITHOUT_MEMORY,
+        3,
+        "",
+        "error: memory\n",
     ),
     (
         "listen 127.0.0.1 0\n",

@@ -4,5 +4,5 @@ use Rattle.commands.specs.Checks.{TellsUnbound}
 use Rattle.commands.proofs.Checks.{tell}
 use Rattle.commands.proofs.check_config.bound.Goals as goal
 
-pub returns-in-None-clause-err : goal.returns-in-None-clause-err
-returns-in-None-clause-err g c = tell string_bytes c.unbound_words-words.result TellsUnbound _ _ _ c.unbound_words-words.ensures c.told.ensures
+pub returns-in-Ok-None-clause-err : goal.returns-in-Ok-None-clause-err
+returns-in-Ok-None-clause-err g c = tell string_bytes c.unbound_words-words.result TellsUnbound _ _ _ c.unbound_words-words.ensures c.told.ensures
