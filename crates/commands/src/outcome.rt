@@ -1,5 +1,5 @@
 //! What a command comes to.
-ghost use Rattle.std.specs.Prelude.{◌≡◌};
+ghost use Rattle.std.specs.Prelude.{◌≡◌, None};
 ghost use Rattle.engine.specs.Beginnings.{IsBegun};
 
 use engine::Core;
@@ -51,4 +51,17 @@ pub struct Outcome<A: Allocator = Global> {
     pub status: u8,
     /// The server, only where the status is 0.
     pub server: Option<Server<A>>,
+}
+
+impl<A: Allocator> Outcome<A> {
+    /// That of a command which started no server.
+    pub(crate) fn without_server(status: u8) -> Outcome<A>
+        ensures status { result.status ≡ status }
+        ensures none { result.server ≡ None }
+    {
+        Outcome {
+            status,
+            server: None,
+        }
+    }
 }

@@ -92,42 +92,23 @@ pub fn run_command<
             file,
             name,
             kind,
-        } => {
-            let (origin, file) = (origin.as_str(), file.as_str());
-            let done = ask(alloc, texts, origin, file, name.as_str(), kind.as_str());
-            finished(done, out, err)
-        }
-        Command::Check { origin, file } => {
-            let done = check(alloc, texts, origin.as_str(), file.as_str());
-            finished(done, out, err)
-        }
-        Command::Dump { origin, file } => {
-            let done = dump(alloc, texts, origin.as_str(), file.as_str());
-            finished(done, out, err)
-        }
-        Command::Play { world, script } => {
-            let done = play(alloc, texts, world.as_str(), script.as_str());
-            finished(done, out, err)
-        }
+        } => finished(ask(alloc, texts, origin, file, name, kind), out, err),
+        Command::Check { origin, file } => finished(check(alloc, texts, origin, file), out, err),
+        Command::Dump { origin, file } => finished(dump(alloc, texts, origin, file), out, err),
+        Command::Play { world, script } => finished(play(alloc, texts, world, script), out, err),
         Command::Storm {
             keep,
             world,
             scripts,
-        } => {
-            let done = storm(rt, texts, *keep, world.as_str(), scripts.as_slice());
-            finished(done, out, err)
+        } => finished(storm(rt, texts, *keep, world, scripts), out, err),
+        Command::Serve { config } => start_server(alloc, config, texts, host, out, err),
+        Command::CheckConfig { config } => {
+            let status = check_config(alloc, config, texts, host, out, err);
+            Outcome::without_server(status)
         }
-        Command::Serve { config } => start_server(alloc, config.as_str(), texts, host, out, err),
-        Command::CheckConfig { config } => Outcome {
-            status: check_config(alloc, config.as_str(), texts, host, out, err),
-            server: None,
-        },
         Command::Trace { config, name, kind } => {
-            let (config, name, kind) = (config.as_str(), name.as_str(), kind.as_str());
-            Outcome {
-                status: trace_query(alloc, config, name, kind, texts, host, out, err),
-                server: None,
-            }
+            let status = trace_query(alloc, config, name, kind, texts, host, out, err);
+            Outcome::without_server(status)
         }
     }
 }
