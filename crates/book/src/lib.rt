@@ -1,10 +1,10 @@
 //! One history that many threads share: a machine's state, a count for each worker, and the last entries. Whenever
 //! one looks at a book, a single history of the machine, as one thread would run it, led to what it shows.
 //!
-//! A `Machine` has a state and steps by events. `Book::new` gives a book and a `Ticket` for each worker; `put`
-//! takes one step as a ticket's worker and answers with its `Entry`, `step` with what came out alone. `recent` and
-//! `into_history` read the entries, `state` and `counts` the rest. A ticket's count is its share of a ledger, so that
-//! nobody can make an entry of another's.
+//! A `Machine` has a state and steps by events; `Measured` and `Answering` are such of which more can be told.
+//! `Book::new` gives a book and a `Ticket` for each worker; `put` takes one step as a ticket's worker and answers with
+//! its `Entry`, `step` with what came out alone. `recent` and `into_history` read the entries, `state` and `counts` the
+//! rest. A ticket's count is its share of a ledger, so that nobody can make an entry of another's.
 //!
 //! Promised: one history led to the book (`reached_law`, `Reached`); a step is one the machine may take, and its entry
 //! the newest (`Takes`, `Gives`); the whole history, while it is kept (`IsHistory`); the shares of all tickets are all
@@ -26,5 +26,5 @@ mod ticket;
 
 pub use book::Book;
 pub use entry::Entry;
-pub use machine::{Machine, Measured};
+pub use machine::{Answering, Machine, Measured};
 pub use ticket::Ticket;

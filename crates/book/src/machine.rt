@@ -57,3 +57,13 @@ pub trait Measured: Machine {
     fn sizes(state: &Self::State) -> Self::Sizes
         ensures { result ≡ sizes_of state.now };
 }
+
+/// A machine that can tell before a step whether its state has the answer to an event.
+pub trait Answering: Machine {
+    /// Whether the answer to this event is there in this state.
+    ghost has_answer: { Self.State → Self.Event → Type 0 };
+
+    /// Whether the answer to this event is there. Nothing changes by that.
+    fn holds(state: &Self::State, event: &Self::Event) -> Result<bool, Starved>
+        ensures { IfOk result (λ b. IsTrue b ↔ has_answer state.now event.now) };
+}

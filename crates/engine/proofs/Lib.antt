@@ -14,3 +14,4 @@ pub mod Stepped
 pub mod Histories
 pub mod Unwritten
 pub mod Told
+pub mod AtHand

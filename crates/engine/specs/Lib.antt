@@ -3,6 +3,7 @@ pub mod Promises
 pub mod Beginnings
 pub mod Turns
 pub mod Histories
+pub mod AtHand
 -- Computed: functions that the code is compared with.
 pub mod Moves
 pub mod Calls

@@ -1,9 +1,10 @@
 //! The resolver as the machine of a book: workers on several threads share it, and one history of its steps leads
 //! to each of its states.
+ghost use Rattle.engine.specs.AtHand.{AtHandAsksNobody};
 ghost use Rattle.engine.specs.Histories.{HistoryIsRun, TypedHistoryIsRun};
 
 use crate::machine::Core;
-use book::{Machine, Measured};
+use book::{Answering, Machine, Measured};
 use counters::StoreSizes;
 use events::{Actions, Event};
 use memory::Starved;
@@ -98,6 +99,16 @@ impl Measured for TypedCore {
     }
 }
 
+impl Answering for TypedCore {
+    ghost use Rattle.engine.specs.AtHand.{HasAnswer};
+
+    ghost has_answer = { λ s e. HasAnswer s e };
+
+    fn holds(state: &Core, event: &TypedEvent) -> Result<bool, Starved> {
+        state.holds(event)
+    }
+}
+
 /// The history of such a book, from a resolver that has done nothing yet, is a run: each law of runs holds of it,
 /// whichever worker took which step.
 pub fn history_is_run<A: Allocator>(_alloc: A)
@@ -108,4 +119,9 @@ pub fn history_is_run<A: Allocator>(_alloc: A)
 /// is one on the bytes that its event was read from, and its actions are the ones that are written of it.
 pub fn typed_history_is_run<A: Allocator>(_alloc: A)
     ensures { TypedHistoryIsRun A }
+{}
+
+/// A step on a query whose answer is at hand (`Core::holds`) gives its reply, and asks no server.
+pub fn at_hand_law()
+    ensures { AtHandAsksNobody }
 {}

@@ -6,8 +6,9 @@
 //! `book::Machine`, so that many workers can share one.
 //!
 //! Promised: a step is one of `runs`, and each law of `laws` is kept by it, whatever run led there (`Steps`). The
-//! history of a shared resolver is a run (`history_is_run`, `typed_history_is_run`). A new resolver is the one of its
-//! `Config` (`IsMade`), or is refused for one of three reasons (`CoreError`). Events that are for no query take no
+//! history of a shared resolver is a run (`history_is_run`, `typed_history_is_run`). Where `Core::holds` says that the
+//! answer to a query is at hand, its step asks no server (`at_hand_law`). A new resolver is the one of its `Config`
+//! (`IsMade`), or is refused for one of three reasons (`CoreError`). Events that are for no query take no
 //! memory (clause `quiet`).
 //! Not here: sockets and clocks (`server`); the file of a server (`config`, `server_start`).
 //!
@@ -33,6 +34,7 @@ mod client;
 mod datagram;
 mod handle;
 mod hashing;
+mod held;
 mod machine;
 mod settings;
 mod state;
@@ -40,6 +42,6 @@ mod stream;
 mod tick;
 mod withdraw;
 
-pub use booked::{TypedCore, history_is_run, typed_history_is_run};
+pub use booked::{TypedCore, at_hand_law, history_is_run, typed_history_is_run};
 pub use machine::Core;
 pub use settings::{Config, CoreError, Settings};

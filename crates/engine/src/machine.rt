@@ -1,9 +1,10 @@
 //! `Core`, the resolver as one machine for one thread. Its `step` says in its contract what the crate promises.
-ghost use Rattle.std.specs.Prelude.{◌≡◌, false, Some, None, IfOk, IsOk, OnErr, MatchResult};
+ghost use Rattle.std.specs.Prelude.{◌≡◌, ◌↔◌, false, Some, None, IsTrue, IfOk, IsOk, OnErr, MatchResult};
 ghost use Rattle.std.specs.NonZero.{non_zero_usize_get};
 ghost use Rattle.authority.specs.Catalogs.{has_twins};
 ghost use Rattle.authority.specs.CatalogFaults.{CatalogRefuses};
 ghost use Rattle.lookup.specs.Views.{home_at, no_stores, sizes_of};
+ghost use Rattle.engine.specs.AtHand.{HasAnswer};
 ghost use Rattle.engine.specs.Beginnings.{CoreRefuses, IsMade};
 ghost use Rattle.engine.specs.ResolverStates.{state_of};
 ghost use Rattle.engine.specs.Turns.{IsQuiet};
@@ -155,6 +156,14 @@ impl<A: Heap> Core<A> {
         let said = self.state.handle_parsed(event.parsed());
         self.state.queries.apart_law();
         said
+    }
+
+    /// Whether the event is a client's query whose answer is at hand: one without RD, or one for whose name a link that
+    /// is no alias stands in the local zones or lives in the cache. Its step asks no server then.
+    pub fn holds(&self, event: &TypedEvent<A>) -> Result<bool, Starved>
+        ensures { IfOk result (λ b. IsTrue b ↔ HasAnswer self.now event.now) }
+    {
+        Ok(self.state.holds(event.parsed())?)
     }
 
     /// How many entries each store has, expired ones among them.

@@ -1,5 +1,5 @@
 -- What becomes of queries that ask for admission.
-use Rattle.std.specs.Prelude.{◌≡◌, ℕ, Bool, true, false, cond, ◌&&◌, nat_le, nat_lt, Option, Some, None, List, length}
+use Rattle.std.specs.Prelude.{◌≡◌, ℕ, Bool, true, false, cond, ◌⊎◌, ◌&&◌, nat_le, nat_lt, Option, Some, None, List, length}
 use Rattle.std.specs.Bool.{MatchBool}
 use Rattle.std.specs.declared.hash.DefaultHasher.{DefaultHasher}
 use Rattle.causes.specs.declared.cause.Cause.{Cause}
@@ -28,7 +28,7 @@ use Rattle.server.specs.declared.shared_admission.Entry.TheVariants.{In, Held, D
 abbrev pub IsEntry : Decision Query → Entry → Type 0
 IsEntry (decision.In query) entry = entry ≡ In query
 IsEntry decision.Waits entry = entry ≡ Held
-IsEntry (decision.Refused query) entry = entry ≡ Dropped
+IsEntry (decision.Refused query) entry = entry ≡ Dropped query
 
 -- Admission decided so on the query, and this becomes of it.
 pub record IsDecided (before : State Query) (key client moment : ℕ) (query : Query) (entry : Entry) (after : State Query) : Type 0 where
@@ -68,13 +68,13 @@ is_too_long d key bytes = nat_lt 512 (length bytes) && nat_le d.limits.equal (of
 abbrev pub standing_by : Question → Entry → Standing
 standing_by question (In query) = Admitted question
 standing_by question Held = standing.Held
-standing_by question Dropped = standing.Dropped
+standing_by question (Dropped query) = standing.Dropped
 
 -- The query that is still here by this entry.
 abbrev pub query_by : Entry → Option Query
 query_by (In query) = Some query
 query_by Held = None
-query_by Dropped = None
+query_by (Dropped query) = Some query
 
 -- Admission decided so on a question that came at this moment in that query.
 pub record IsAsked (before : State Query) (question : Question) (moment : ℕ) (query : Query) (stands : Standing) (here : Option Query) (after : State Query) : Type 0 where
@@ -90,6 +90,23 @@ StandsBy before question moment query stands here after =
     ((stands ≡ standing.Dropped) × (here ≡ Some query) × (after ≡ before))
     (IsAsked before question moment query stands here after)
 
+-- Whether the query of a question that stands so is still here: it is, unless it waits in admission.
+abbrev pub is_here : Standing → Bool
+is_here Free = true
+is_here (Asks question) = true
+is_here (Admitted question) = true
+is_here standing.Held = false
+is_here standing.Dropped = true
+
+-- How a question stands by what admission decided. One that is dropped may be free where the machine holds its answer:
+-- its step asks no server, so that it needs no place.
+abbrev pub IsLetBy : Type 0 → Standing → Standing → Type 0
+IsLetBy holds Free stands = stands ≡ Free
+IsLetBy holds (Asks question) stands = stands ≡ Asks question
+IsLetBy holds (Admitted question) stands = stands ≡ Admitted question
+IsLetBy holds standing.Held stands = stands ≡ standing.Held
+IsLetBy holds standing.Dropped stands = (stands ≡ standing.Dropped) ⊎ (holds × (stands ≡ Free))
+
 -- What admission is told of a message whose step was taken, and asked a server or not: a question that asked one is
 -- open since that moment, and any other leaves.
 abbrev pub told : Standing → Bool → ℕ → State Query → State Query
@@ -100,11 +117,11 @@ told (Asks question) asks moment d = d
 told standing.Held asks moment d = d
 told standing.Dropped asks moment d = d
 
--- What is let in is the query that came.
+-- What is let in, or dropped, is the query that came.
 abbrev pub IsAdmitted : Query → Entry → Type 0
 IsAdmitted query (In it) = it ≡ query
 IsAdmitted query Held = Unit {0}
-IsAdmitted query Dropped = Unit {0}
+IsAdmitted query (Dropped it) = it ≡ query
 
 -- Why a reply is a SERVFAIL, where it is one.
 abbrev pub cause_in : {A : Type 0} → Action A → Option Cause

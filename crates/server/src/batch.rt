@@ -7,7 +7,7 @@ use crate::query::{Asker, Query};
 use crate::shared_admission::Question;
 use crate::worker::{MOST_AT_ONCE, Worker};
 use admission::Held;
-use book::Machine;
+use book::Answering;
 use counters::Outcome;
 use dispatch::{client_of, stream_reply_event};
 use events::{Actions, Bytes, Endpoint};
@@ -21,7 +21,7 @@ use wire::Via;
 // How many batches of questions are admitted in a row; the others are at the next event, or the next tick.
 const MOST_BATCHES: u32 = 32;
 
-impl<M: Machine<Event = TypedEvent, Out = TypedActions>, L: Ledger> Context<'_, M, L> {
+impl<M: Answering<Event = TypedEvent, Out = TypedActions>, L: Ledger> Context<'_, M, L> {
     /// A client's datagram joins the batch.
     pub fn take_datagram<R: Clock>(
         &self,
@@ -168,13 +168,13 @@ impl<M: Machine<Event = TypedEvent, Out = TypedActions>, L: Ledger> Context<'_, 
         answers
     }
 
-    // Takes the steps of those that are admitted, under one lock, and tells admission what each gave, before that is
-    // handed over: else a reply might come before its question is noted.
+    // Takes the steps of those that are admitted, or whose answer the machine holds, under one lock, and tells admission
+    // what each gave, before that is handed over: else a reply might come before its question is noted.
     fn step_all<R: Wait>(&self, rt: &R, worker: &mut Worker<M, L>, batch: &mut [Passage<M>]) {
         let mut admission = self.common.admission.lock(rt);
         let mut book = self.shared.lock(rt);
         for passage in batch.iter_mut() {
-            if passage.enter(&mut admission) {
+            if passage.enter(&mut admission, &book) {
                 let _ = passage.step(&mut book, &mut worker.ticket);
                 passage.settle(&mut admission);
             }

@@ -4,7 +4,7 @@ use crate::ends::Ends;
 use crate::log::Log;
 use crate::outbox::{StreamReply, hand_back};
 use crate::worker::Worker;
-use book::Machine;
+use book::Answering;
 use counters::Outcome;
 use events::Event;
 use std::sync::Wait;
@@ -21,7 +21,7 @@ const WATCHDOG_MS: u64 = 1_000;
 
 /// Lets time pass until the flag is up: every 50 ms, and again at once while another query is due.
 pub(crate) fn pass_time<
-    M: Machine<Event = TypedEvent, Out = TypedActions>,
+    M: Answering<Event = TypedEvent, Out = TypedActions>,
     L: Ledger,
     R: Wait + Clock,
 >(rt: &R, context: &Context<'_, M, L>, worker: &mut Worker<M, L>) {

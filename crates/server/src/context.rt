@@ -15,7 +15,7 @@ use crate::shared_admission::SharedAdmission;
 use crate::tally::Arrival;
 use crate::worker::Worker;
 use admission::WAITING;
-use book::Machine;
+use book::{Answering, Machine};
 use counters::{Outcome, SocketFault};
 use crossbeam_channel::{Receiver, Sender};
 use dispatch::{Reach, hand_over, stream_reply_event};
@@ -228,7 +228,7 @@ impl Common<'_> {
     }
 }
 
-impl<M: Machine<Event = TypedEvent, Out = TypedActions>, L: Ledger> Context<'_, M, L> {
+impl<M: Answering<Event = TypedEvent, Out = TypedActions>, L: Ledger> Context<'_, M, L> {
     /// Puts an event that is no client's, and hands over what goes out; what came of it. Then who waited is admitted.
     pub fn put<R: Wait + Clock>(
         &self,

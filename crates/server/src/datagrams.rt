@@ -5,7 +5,7 @@ use crate::clock::rest;
 use crate::context::Context;
 use crate::ends::{Ends, MOST_BYTES, endpoint_of, is_early};
 use crate::worker::{MOST_AT_ONCE, Worker};
-use book::Machine;
+use book::Answering;
 use counters::{Outcome, SocketFault};
 use events::Endpoint;
 use libc::net as c;
@@ -19,7 +19,7 @@ use typed::{TypedActions, TypedEvent};
 
 /// Takes the datagrams of clients until the flag is up.
 pub(crate) fn take_datagrams<
-    M: Machine<Event = TypedEvent, Out = TypedActions>,
+    M: Answering<Event = TypedEvent, Out = TypedActions>,
     L: Ledger,
     R: Wait + Clock,
 >(rt: &R, context: &Context<'_, M, L>, worker: &mut Worker<M, L>) {
@@ -37,7 +37,7 @@ pub(crate) fn take_datagrams<
 }
 
 // Takes the datagrams that are there already, as many as one batch has.
-fn take_others<M: Machine<Event = TypedEvent, Out = TypedActions>, L: Ledger, R: Clock>(
+fn take_others<M: Answering<Event = TypedEvent, Out = TypedActions>, L: Ledger, R: Clock>(
     rt: &R,
     context: &Context<'_, M, L>,
     worker: &mut Worker<M, L>,

@@ -18,8 +18,9 @@
 //! of the machine on what was read of it, written (`IsPut`; `IsServed` of a client's message). Where replies and asks
 //! go, and which messages repeat an ask, is proved in `dispatch`, frames in `sockets`, the machine's history in `book`,
 //! which questions wait in `admission`. Each query asks for admission (`StandsAs`), under a hash of what it asks
-//! (`query_key`). It is passed, held or dropped as admission says (`Enters`), and never held where it has over 512
-//! bytes. Whether an ask over TCP begins, waits or fails is `turn_by`. The first that waits and has a place is next.
+//! (`query_key`). It is passed, held, dropped, or let by where the machine holds its answer (`Enters`); over 512 bytes
+//! it never waits. Whether an ask over TCP begins, waits or fails is `turn_by`. The first that waits and has a place is
+//! next.
 //! Not here: what the machine is (`engine`); lists of who may ask, and limits of how often.
 //!
 //! ```text

@@ -1,19 +1,19 @@
 //! Clients' messages on their way through the machine: each is read before the lock is taken, its step is taken while
 //! it is held, and what that gives is written behind it.
-ghost use Rattle.std.specs.Prelude.{◌≡◌, Some, None, IfOk, IfSome, IfNone, MatchOption, OnOk, IfErr};
+ghost use Rattle.std.specs.Prelude.{◌≡◌, true, Some, None, IfOk, IfSome, IfNone, MatchOption, OnOk, IfErr};
 ghost use Rattle.std.specs.Bool.{OnTrue};
 ghost use Rattle.runs.specs.States.{Client, told_moment};
 ghost use Rattle.events.specs.Views.{event_view};
 ghost use Rattle.typed.specs.Events.{ReadAs};
 ghost use Rattle.pool.specs.Closings.{IsEventRefused};
-ghost use Rattle.server.specs.Entries.{StandsAs, StandsBy, is_passed, is_too_long, told};
+ghost use Rattle.server.specs.Entries.{StandsAs, StandsBy, IsLetBy, is_here, is_passed, is_too_long, told};
 ghost use Rattle.server.specs.Passages.{Enters, IsAnswered, IsClients, IsOfQuery, TakesStep, asks_server};
 
 use crate::query::{Asker, Query};
 use crate::shared_admission::{Entry, Question, SharedAdmission, ask_for};
 use crate::tally::Arrival;
 use admission::Admission;
-use book::{Book, Machine, Ticket};
+use book::{Answering, Book, Machine, Ticket};
 use events::{Actions, Event};
 use memory::Starved;
 use pool::{PoolError, step_locked};
@@ -29,7 +29,7 @@ const MOST_HELD_BYTES: usize = 512;
 /// How a message stands in admission.
 #[derive(Clone, Copy)]
 pub(crate) enum Standing {
-    /// It needs none: it is no query.
+    /// It needs none: it is no query, or one whose answer the machine holds.
     Free,
     /// It is still to ask for it.
     Asks(Question),
@@ -57,7 +57,7 @@ fn stand(
     query: Query,
 ) -> (Standing, Option<Query>)
     ensures stands { StandsBy admission.old question moment query result.0 result.1 admission.new }
-    ensures here { OnTrue (is_passed result.0) (result.1 ≡ Some query) }
+    ensures here { OnTrue (is_here result.0) (result.1 ≡ Some query) }
 {
     if is_too_long(admission, question.key, &query) {
         return (Standing::Dropped, Some(query));
@@ -65,7 +65,42 @@ fn stand(
     match ask_for(admission, question, moment, query) {
         Entry::In(query) => (Standing::Admitted(question), Some(query)),
         Entry::Held => (Standing::Held, None),
-        Entry::Dropped => (Standing::Dropped, None),
+        Entry::Dropped(query) => (Standing::Dropped, Some(query)),
+    }
+}
+
+// Whether the machine holds the answer to what was read. Where memory is refused, that is not known.
+fn is_held<M: Answering<Event = TypedEvent, Out = TypedActions>, L: Ledger>(
+    book: &Book<M, L>,
+    parsed: &TypedEvent,
+) -> bool
+    ensures { OnTrue result (M.has_answer book.now.state parsed.now) }
+{
+    match M::holds(book.state(), parsed) {
+        Ok(held) => held,
+        Err(_) => false,
+    }
+}
+
+// How a question stands by what admission decided. One that is dropped is free where the machine holds its answer: its
+// step asks no server, so that it needs no place.
+fn let_by<M: Answering<Event = TypedEvent, Out = TypedActions>, L: Ledger>(
+    book: &Book<M, L>,
+    parsed: &TypedEvent,
+    decided: Standing,
+) -> Standing
+    ensures by { IsLetBy (M.has_answer book.now.state parsed.now) decided result }
+    ensures here { OnTrue (is_passed result) (is_here decided ≡ true) }
+{
+    match decided {
+        Standing::Dropped => {
+            if is_held(book, parsed) {
+                Standing::Free
+            } else {
+                Standing::Dropped
+            }
+        }
+        _ => decided,
     }
 }
 
@@ -166,22 +201,6 @@ impl<M: Machine<Event = TypedEvent, Out = TypedActions>> Passage<M> {
         self.moment
     }
 
-    /// Asks for admission, where that is still to be done; whether its step is to be taken now.
-    pub fn enter(&mut self, admission: &mut Admission<Query>) -> bool
-        ensures passed { result ≡ is_passed self.new.standing }
-        ensures here { OnTrue result (self.new ≡ record self.old { standing = self.new.standing }) }
-        ensures asked { Enters self.old.standing admission.old self.old self.new admission.new }
-    {
-        if let Standing::Asks(question) = self.standing
-            && let Some(query) = self.query.take()
-        {
-            let (standing, query) = stand(admission, question, self.moment, query);
-            self.standing = standing;
-            self.query = query;
-        }
-        matches!(self.standing, Standing::Free | Standing::Admitted(_))
-    }
-
     /// The machine takes its step.
     pub fn step<L: Ledger>(
         &mut self,
@@ -246,5 +265,24 @@ impl<M: Machine<Event = TypedEvent, Out = TypedActions>> Passage<M> {
         drop(parsed);
         drop(given);
         query
+    }
+}
+
+impl<M: Answering<Event = TypedEvent, Out = TypedActions>> Passage<M> {
+    /// Asks for admission, where that is still to be done; whether its step is to be taken now. What admission drops is
+    /// answered all the same where the machine holds its answer.
+    pub fn enter<L: Ledger>(&mut self, admission: &mut Admission<Query>, book: &Book<M, L>) -> bool
+        ensures passed { result ≡ is_passed self.new.standing }
+        ensures here { OnTrue result (self.new ≡ record self.old { standing = self.new.standing }) }
+        ensures asked { Enters (M.has_answer book.now.state) self.old.standing admission.old self.old self.new admission.new }
+    {
+        if let Standing::Asks(question) = self.standing
+            && let Some(query) = self.query.take()
+        {
+            let (decided, query) = stand(admission, question, self.moment, query);
+            self.standing = let_by(book, &self.parsed, decided);
+            self.query = query;
+        }
+        matches!(self.standing, Standing::Free | Standing::Admitted(_))
     }
 }

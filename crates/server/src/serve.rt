@@ -14,7 +14,7 @@ use crate::shared_admission::SharedAdmission;
 use crate::streams::take_streams;
 use crate::upstream::take_answers;
 use crate::worker::{Worker, workers_of};
-use book::{Machine, Measured, Ticket};
+use book::{Answering, Measured, Ticket};
 use counters::StoreSizes;
 use dispatch::{Role, role_of};
 use pool::Shared;
@@ -32,7 +32,10 @@ use typed::{TypedActions, TypedEvent};
 /// Every loop has ended when this returns. Where a thread can't be made the flag is put up, and the server is refused
 /// with `Threads`; where a loop can't begin for want of memory, with `Memory`.
 pub fn serve_until<
-    M: Measured<Event = TypedEvent, Out = TypedActions, Sizes = StoreSizes> + Send + Sync,
+    M: Measured<Event = TypedEvent, Out = TypedActions, Sizes = StoreSizes>
+        + Answering<Event = TypedEvent, Out = TypedActions>
+        + Send
+        + Sync,
     L: Ledger + Send + Sync,
     R: Net<Listener = TcpListener, Stream = TcpStream> + Threads + Wait + Clock + Sync,
 >(
@@ -76,7 +79,10 @@ pub fn serve_until<
 
 // Logs the start, before any loop answers, and runs a loop for each worker, until all have ended.
 fn run<
-    M: Measured<Event = TypedEvent, Out = TypedActions, Sizes = StoreSizes> + Send + Sync,
+    M: Measured<Event = TypedEvent, Out = TypedActions, Sizes = StoreSizes>
+        + Answering<Event = TypedEvent, Out = TypedActions>
+        + Send
+        + Sync,
     L: Ledger + Send + Sync,
     R: Net<Listener = TcpListener, Stream = TcpStream> + Threads + Wait + Clock + Sync,
 >(
@@ -106,7 +112,10 @@ fn start_all<
     's,
     'd,
     E,
-    M: Measured<Event = TypedEvent, Out = TypedActions, Sizes = StoreSizes> + Send + Sync,
+    M: Measured<Event = TypedEvent, Out = TypedActions, Sizes = StoreSizes>
+        + Answering<Event = TypedEvent, Out = TypedActions>
+        + Send
+        + Sync,
     L: Ledger + Send + Sync,
     R: Net<Listener = TcpListener, Stream = TcpStream> + Wait + Clock + Sync,
 >(
@@ -132,7 +141,10 @@ fn start_counters<
     's,
     'd,
     E,
-    M: Measured<Event = TypedEvent, Out = TypedActions, Sizes = StoreSizes> + Send + Sync,
+    M: Measured<Event = TypedEvent, Out = TypedActions, Sizes = StoreSizes>
+        + Answering<Event = TypedEvent, Out = TypedActions>
+        + Send
+        + Sync,
     L: Ledger + Send + Sync,
     R: Net<Listener = TcpListener, Stream = TcpStream> + Wait + Clock + Sync,
 >(rt: &'s R, scope: &Scope<'s, E>, context: &'s Context<'d, M, L>) -> bool {
@@ -152,7 +164,7 @@ fn start<
     's,
     'd,
     E,
-    M: Machine<Event = TypedEvent, Out = TypedActions> + Send + Sync,
+    M: Answering<Event = TypedEvent, Out = TypedActions> + Send + Sync,
     L: Ledger + Send + Sync,
     R: Net<Listener = TcpListener, Stream = TcpStream> + Wait + Clock + Sync,
 >(rt: &'s R, scope: &Scope<'s, E>, context: &'s Context<'d, M, L>, worker: Worker<M, L>) -> bool {
@@ -165,7 +177,7 @@ fn start<
 
 // Does what the worker is for, until the flag is up.
 fn work<
-    M: Machine<Event = TypedEvent, Out = TypedActions>,
+    M: Answering<Event = TypedEvent, Out = TypedActions>,
     L: Ledger,
     R: Net<Listener = TcpListener, Stream = TcpStream> + Wait + Clock,
 >(rt: &R, context: &Context<'_, M, L>, worker: Worker<M, L>) {

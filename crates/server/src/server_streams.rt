@@ -9,7 +9,7 @@ use crate::framed_stream::{FramedStream, MOST_FRAME_BYTES, StreamFault};
 use crate::outbox::StreamAsk;
 use crate::poller::Poller;
 use crate::worker::Worker;
-use book::Machine;
+use book::Answering;
 use counters::{AskFault, Outcome, Way};
 use dispatch::stream_reply_event;
 use limits::TCP_WAIT_MS;
@@ -143,7 +143,7 @@ fn ask_outcome(fault: StreamFault) -> Outcome
 /// Asks servers over TCP, many at a time, until the flag is up. What is no reply is told as a failure, and so is an ask
 /// whose time is over, its wait for a stream included.
 pub(crate) fn ask_servers<
-    M: Machine<Event = TypedEvent, Out = TypedActions>,
+    M: Answering<Event = TypedEvent, Out = TypedActions>,
     L: Ledger,
     R: Net + Wait + Clock,
 >(rt: &R, context: &Context<'_, M, L>, worker: &mut Worker<M, L>) {
@@ -187,7 +187,7 @@ fn await_talks(common: &Common<'_>, poll: &mut Poll, events: &mut Events, talks:
 // Takes up new asks, goes on with every talk, and begins others where some have ended; when it was looked last whose
 // time is over.
 fn advance_all<
-    M: Machine<Event = TypedEvent, Out = TypedActions>,
+    M: Answering<Event = TypedEvent, Out = TypedActions>,
     L: Ledger,
     R: Net + Wait + Clock,
 >(
@@ -240,7 +240,7 @@ fn stir(talks: &mut Slab<Talk>, key: usize) {
 
 // Takes up the asks that were handed on, as many in a row as may be under way.
 fn take_up_all<
-    M: Machine<Event = TypedEvent, Out = TypedActions>,
+    M: Answering<Event = TypedEvent, Out = TypedActions>,
     L: Ledger,
     R: Net + Wait + Clock,
 >(rt: &R, context: &Context<'_, M, L>, worker: &mut Worker<M, L>, asking: &mut Asking) {
@@ -254,7 +254,7 @@ fn take_up_all<
 
 // Takes up those that wait for a place and may begin now.
 fn begin_waiting<
-    M: Machine<Event = TypedEvent, Out = TypedActions>,
+    M: Answering<Event = TypedEvent, Out = TypedActions>,
     L: Ledger,
     R: Net + Wait + Clock,
 >(rt: &R, context: &Context<'_, M, L>, worker: &mut Worker<M, L>, asking: &mut Asking) {
@@ -267,7 +267,7 @@ fn begin_waiting<
 }
 
 // Takes up an ask: it begins, waits for a place, or has failed.
-fn take_up<M: Machine<Event = TypedEvent, Out = TypedActions>, L: Ledger, R: Net + Wait + Clock>(
+fn take_up<M: Answering<Event = TypedEvent, Out = TypedActions>, L: Ledger, R: Net + Wait + Clock>(
     rt: &R,
     context: &Context<'_, M, L>,
     worker: &mut Worker<M, L>,
@@ -311,7 +311,7 @@ fn begin_or_keep<R: Net + Clock>(
 }
 
 // Those that waited for a place until their time was over have failed.
-fn fail_late<M: Machine<Event = TypedEvent, Out = TypedActions>, L: Ledger, R: Wait + Clock>(
+fn fail_late<M: Answering<Event = TypedEvent, Out = TypedActions>, L: Ledger, R: Wait + Clock>(
     rt: &R,
     context: &Context<'_, M, L>,
     worker: &mut Worker<M, L>,
@@ -329,7 +329,7 @@ fn fail_late<M: Machine<Event = TypedEvent, Out = TypedActions>, L: Ledger, R: W
 }
 
 // The ask of this number has failed, which counts so.
-fn fail<M: Machine<Event = TypedEvent, Out = TypedActions>, L: Ledger, R: Wait + Clock>(
+fn fail<M: Answering<Event = TypedEvent, Out = TypedActions>, L: Ledger, R: Wait + Clock>(
     rt: &R,
     context: &Context<'_, M, L>,
     worker: &mut Worker<M, L>,
@@ -387,7 +387,7 @@ fn watch(servers: &Poller, talks: &mut Slab<Talk>, talk: Talk) -> Result<(), Out
 
 // Goes on with the talk of this key where there is something to do, and ends it where its reply has come, where it has
 // failed and, at a check, where its time is over, even if a part of its reply has just come. Whether it has ended.
-fn advance<M: Machine<Event = TypedEvent, Out = TypedActions>, L: Ledger, R: Net + Wait + Clock>(
+fn advance<M: Answering<Event = TypedEvent, Out = TypedActions>, L: Ledger, R: Net + Wait + Clock>(
     rt: &R,
     context: &Context<'_, M, L>,
     worker: &mut Worker<M, L>,

@@ -44,7 +44,7 @@ pub(crate) enum Entry {
     /// It waits.
     Held,
     /// It is dropped.
-    Dropped,
+    Dropped(Query),
 }
 
 // What becomes of a query by what was decided of it.
@@ -54,7 +54,7 @@ fn entry_of(decision: Decision<Query>) -> Entry
     match decision {
         Decision::In(query) => Entry::In(query),
         Decision::Waits => Entry::Held,
-        Decision::Refused(_) => Entry::Dropped,
+        Decision::Refused(query) => Entry::Dropped(query),
     }
 }
 

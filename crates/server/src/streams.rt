@@ -6,7 +6,7 @@ use crate::framed_stream::MOST_FRAME_BYTES;
 use crate::outbox::StreamReply;
 use crate::places::Places;
 use crate::worker::Worker;
-use book::Machine;
+use book::Answering;
 use mio::{Events, Poll};
 use std::sync::Wait;
 use std::sync::ledger::Ledger;
@@ -27,7 +27,7 @@ const REPLIES_IN_A_ROW: u32 = 1_024;
 
 /// Takes the streams of clients, and answers their frames, each as its reply comes, until the flag is up.
 pub(crate) fn take_streams<
-    M: Machine<Event = TypedEvent, Out = TypedActions>,
+    M: Answering<Event = TypedEvent, Out = TypedActions>,
     L: Ledger,
     R: Wait + Clock,
 >(rt: &R, context: &Context<'_, M, L>, worker: &mut Worker<M, L>) {
@@ -77,7 +77,7 @@ fn await_streams(
 
 // Hands out the replies, takes the questions, ends what is over, and gives places to those that wait, where some do;
 // whether one still waits.
-fn serve_places<M: Machine<Event = TypedEvent, Out = TypedActions>, L: Ledger, R: Wait + Clock>(
+fn serve_places<M: Answering<Event = TypedEvent, Out = TypedActions>, L: Ledger, R: Wait + Clock>(
     rt: &R,
     context: &Context<'_, M, L>,
     worker: &mut Worker<M, L>,
@@ -133,7 +133,7 @@ fn put_reply(places: &mut Places, now: u64, reply: StreamReply) {
 
 // Writes and reads the stream at this key where there is something to do, and puts the questions that came. Where it is
 // known at once that nothing goes out for one, since it is no query or was dropped in admission, the stream is to end.
-fn take_questions<M: Machine<Event = TypedEvent, Out = TypedActions>, L: Ledger, R: Wait + Clock>(
+fn take_questions<M: Answering<Event = TypedEvent, Out = TypedActions>, L: Ledger, R: Wait + Clock>(
     rt: &R,
     context: &Context<'_, M, L>,
     worker: &mut Worker<M, L>,
@@ -156,7 +156,7 @@ fn take_questions<M: Machine<Event = TypedEvent, Out = TypedActions>, L: Ledger,
 }
 
 // Puts the next question of a stream; whether one had come.
-fn take_question<M: Machine<Event = TypedEvent, Out = TypedActions>, L: Ledger, R: Wait + Clock>(
+fn take_question<M: Answering<Event = TypedEvent, Out = TypedActions>, L: Ledger, R: Wait + Clock>(
     rt: &R,
     context: &Context<'_, M, L>,
     worker: &mut Worker<M, L>,

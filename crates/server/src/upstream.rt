@@ -2,7 +2,7 @@
 use crate::context::{Common, Context};
 use crate::ends::{Ends, MOST_BYTES, SLICE_MS};
 use crate::worker::Worker;
-use book::Machine;
+use book::Answering;
 use counters::{AskFault, Outcome, SocketFault, Way};
 use dispatch::datagram_event;
 use mio::Events;
@@ -54,7 +54,7 @@ fn count_asks(ends: &Ends, counted: &mut Counted, silent: u64) {
 
 /// Takes what repeats the asks that are open, each at its own socket, until the flag is up.
 pub(crate) fn take_answers<
-    M: Machine<Event = TypedEvent, Out = TypedActions>,
+    M: Answering<Event = TypedEvent, Out = TypedActions>,
     L: Ledger,
     R: Wait + Clock,
 >(rt: &R, context: &Context<'_, M, L>, worker: &mut Worker<M, L>) {
@@ -97,7 +97,7 @@ fn sweep<R: Wait + Clock>(rt: &R, common: &Common<'_>, swept: u64, counted: &mut
 }
 
 // Takes what came for the ask of this key, where it repeats it.
-fn take_answer<M: Machine<Event = TypedEvent, Out = TypedActions>, L: Ledger, R: Wait + Clock>(
+fn take_answer<M: Answering<Event = TypedEvent, Out = TypedActions>, L: Ledger, R: Wait + Clock>(
     rt: &R,
     context: &Context<'_, M, L>,
     worker: &mut Worker<M, L>,

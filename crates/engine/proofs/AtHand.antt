@@ -1,0 +1,108 @@
+-- What is at hand is answered, and nobody is asked for it.
+use Rattle.std.proofs.Common.{◌≡◌, ◌⊎◌, inl, inr, ℕ, Bool, true, false, Option, Some, None, List, [], ◌∷◌, refl, sym, ap, subst, ◌∙◌, arith}
+use Rattle.std.specs.Prelude.{◌↔◌, min, max, IsTrue}
+use Rattle.dname.specs.Labels.{Name}
+use Rattle.rdata.specs.Types.{type_number}
+use Rattle.causes.specs.declared.cause.Cause.{Cause}
+use Rattle.wire.specs.declared.via.Via.{Via}
+use Rattle.zone.specs.Links.{Link, Found, Alias, NoData, NxDomain}
+use Rattle.zone.specs.Look.{Local, Linked, Cut, NotHere}
+use Rattle.front.specs.Queries.{IsRequest}
+use Rattle.front.specs.declared.queries.Outcome.{Outcome}
+use Rattle.front.specs.declared.queries.Query.{Query}
+use Rattle.front.specs.declared.queries.Request.TheVariants as request
+use Rattle.cache.specs.Keys.{Key}
+use Rattle.cache.specs.Cached.{Hit, lent, hit_of, is_end, has_end}
+use Rattle.resolution.specs.Jobs.{Home, Stores, Taken, local_link, kept_link, IsEnding}
+use Rattle.resolution.specs.Rules.{Says, IsRemote, asked_by, asked_of}
+use Rattle.lookup.specs.Held.{ends_by, IsAtHand}
+use Rattle.runs.specs.States.{Event, Action, ClientQuery, client_query, Plain, Turn, Site, State, latest}
+use Rattle.runs.specs.States as told
+use Rattle.runs.specs.Messages.{reply_of, IsReply}
+use Rattle.runs.specs.Runs.{Run}
+use Rattle.runs.proofs.Clocks.{clock_of_run}
+use Rattle.laws.specs.Held.{IsHeldChain}
+use Rattle.typed.specs.Events.{Parsed, Client, Datagram, TcpReply, TcpFailed, Tick}
+use Rattle.engine.specs.Promises.{Steps}
+use Rattle.engine.specs.AtHand.{HasEnd, AtHandAsksNobody}
+
+apart : {P : Type 0} → false ≡ true → P
+apart e = cc
+
+-- ---- what the code says of a query
+
+pub never : IsTrue false ↔ ⊥
+never = (λ e. apart e, λ x. absurd x)
+
+pub without_rd : {P : Type 0} (rd : Bool) → rd ≡ false → IsTrue true ↔ ((rd ≡ false) ⊎ P)
+without_rd rd e = (λ y. inl e, λ h. refl)
+
+pub with_rd : {P : Type 0} (rd b : Bool) → rd ≡ true → IsTrue b ↔ P → IsTrue b ↔ ((rd ≡ false) ⊎ P)
+with_rd rd b e h = (
+  λ y. inr (h.0 y),
+  λ ends. elim ends [
+    | inl lacks ↦ apart (sym lacks ∙ e)
+    | inr there ↦ h.1 there
+  ],
+)
+
+-- ---- a link at hand is a chain without aliases
+
+ending : (l : Link) → is_end l ≡ true → IsEnding l
+ending (Found rs) e = tt
+ending (Alias r) e = apart e
+ending (NoData soa) e = tt
+ending (NxDomain soa) e = tt
+
+module _ (home : Home) (now : ℕ) (n : Name) (t : ℕ) (es : List (Key × Hit)) where
+  abbrev AnEnd : Type 0
+  AnEnd = (l : Taken) × IsHeldChain home now t es n [] l
+
+  cached : IsRemote home n t → (o : Option Hit) → hit_of (lent (asked_of home n t) now es) ≡ o → has_end o ≡ true → AnEnd
+  cached remote None is e = apart e
+  cached remote (Some h) is e = (kept_link n h, (inr (remote, (h, is, refl)), ending h.link e))
+
+  by_what : (what : Local) → Says home n t what → ends_by what now n t es ≡ true → AnEnd
+  by_what (Linked k) says e = (local_link n k, (inl (k, says, refl), ending k e))
+  by_what (Cut at ns glue) says e =
+      cached (inl (at, ns, glue, says)) (hit_of (lent (asked_by (Cut at ns glue) n t) now es)) (ap (λ (what : Local). hit_of (lent (asked_by what n t) now es)) says.0) e
+  by_what NotHere says e = cached (inr says) (hit_of (lent (asked_by NotHere n t) now es)) (ap (λ (what : Local). hit_of (lent (asked_by what n t) now es)) says.0) e
+
+held_chain : (home : Home) (now : ℕ) (n : Name) (t : ℕ) (stores : Stores) → IsAtHand home now n t stores → (l : Taken) × IsHeldChain home now t stores.cache n [] l
+held_chain home now n t stores h = by_what home now n t stores.cache h.what h.says h.ends
+
+-- ---- the step on it
+
+module _ (site : Site) (past : List Turn) (s : State) (now client : ℕ) (way : Via) (bytes : List ℕ) (q : Query Plain) (out : List Action) (new : State) where
+  abbrev Alone : Type 0
+  Alone = (given : List ℕ) × (cause : Option Cause) × (out ≡ told.Reply client way given cause ∷ [])
+
+  alone : (o : Outcome Plain) (action : Action) → IsReply (client_query client way q) o action → out ≡ action ∷ [] → Alone
+  alone o action reply is = (reply.0, (reply_of way q o).1, is ∙ ap (λ (a : Action). a ∷ []) reply.1.1)
+
+  query_alone : Run site past s → IsRequest bytes (request.Query q) → HasEnd s (min now latest) q → Steps s (told.Client now client way bytes) (Some out) new → Alone
+  query_alone legal asks has steps = by (q.start).rd refl
+    where
+      by : (rd : Bool) → (q.start).rd ≡ rd → Alone
+      by false lacks =
+          let (served, o, action, reply, is) = (steps.promises site past legal).at_hand now client way bytes out (request.Query q) refl refl asks lacks in
+          alone o action reply is
+      by true wants =
+          let here : IsAtHand (s.site).home (max s.clock (min now latest)) q.name (type_number q.kind) s.stores = elim has [
+            | inl lacks ↦ apart (sym lacks ∙ wants)
+            | inr there ↦ there
+          ] in
+          let (l, chain) = held_chain (s.site).home (max s.clock (min now latest)) q.name (type_number q.kind) s.stores here in
+          let ours = subst (λ (h : Home). IsHeldChain h (max s.clock (min now latest)) (type_number q.kind) (s.stores).cache q.name [] l) (ap (λ (x : Site). x.home) (clock_of_run site past s legal).1) chain in
+          let (served, action, reply, is) = (steps.promises site past legal).held now client way bytes out q [] l refl refl asks wants (omega arith) ours in
+          alone _ action reply is
+
+pub at_hand_asks_nobody : AtHandAsksNobody
+at_hand_asks_nobody site past s e (Client now client way (request.Query q)) out new legal reads has steps =
+    query_alone site past s now client way reads.0 q out new legal reads.1.1 has (subst (λ (x : Event). Steps s x (Some out) new) reads.1.0 steps)
+at_hand_asks_nobody site past s e (Client now client way request.Drop) out new legal reads has steps = absurd has
+at_hand_asks_nobody site past s e (Client now client way (request.Refuse refusal start echo)) out new legal reads has steps = absurd has
+at_hand_asks_nobody site past s e (Datagram now sock from reading) out new legal reads has steps = absurd has
+at_hand_asks_nobody site past s e (TcpReply now number reading) out new legal reads has steps = absurd has
+at_hand_asks_nobody site past s e (TcpFailed now number) out new legal reads has steps = absurd has
+at_hand_asks_nobody site past s e (Tick now) out new legal reads has steps = absurd has
