@@ -10,7 +10,7 @@ ghost use Rattle.admission.specs.Moves.{Admits, AdmitsNext, admitted, is_enterin
 use crate::limits::Limits;
 use crate::places::{
     address_in, admitted_from, admitted_with, drop_late, held_from, held_with, place_of_entering,
-    place_of_late, place_of_open, take_first,
+    place_of_late, place_of_open, take_first, take_where,
 };
 use crate::queries::{Admitted, Decision, Held};
 use memory::{Heap, Starved};
@@ -250,13 +250,16 @@ impl<T: Drop, A: Allocator> Admission<T, A> {
         self.admitted.push(query).unwrap();
     }
 
-    // The query at that place leaves, and the first that waits for its key is called in.
+    // The query at that place leaves, and the first that waits for its key is called in. None waits where fewer equal
+    // ones are inside than may be, and then those that wait are not looked through.
     fn leave(&mut self, place: usize)
         requires { place < length self.old.admitted }
         ensures { (q : Admitted) → self.new ≡ called (slice_index_or self.old.admitted place q).key (record self.old { admitted = remove self.old.admitted place }) }
     {
         let gone = self.admitted.remove(place);
-        if let Some(query) = take_first(&mut self.waiting, gone.key) {
+        let left = admitted_with(&self.admitted, gone.key) + held_with(&self.ready, gone.key);
+        let waits = self.limits.equal <= left + 1;
+        if let Some(query) = take_where(&mut self.waiting, gone.key, waits) {
             self.ready.push_back(query).unwrap();
         }
     }

@@ -1,5 +1,5 @@
 //! How many queries there are of a key and of an address, and where the first of a kind stands.
-ghost use Rattle.std.specs.Prelude.{◌≡◌, ◌+◌, length};
+ghost use Rattle.std.specs.Prelude.{◌≡◌, ◌+◌, false, length, None};
 ghost use Rattle.std.specs.List.{count_by, filter, position};
 ghost use Rattle.std.specs.VecDeque.{deque_capacity};
 ghost use Rattle.admission.specs.States.{address_in, admitted_with, admitted_from, held_with, held_from};
@@ -103,6 +103,23 @@ pub fn take_first<T, A: Allocator>(queries: &mut VecDeque<Held<T>, A>, key: u64)
         Some(place) => queries.remove(place),
         None => None,
     }
+}
+
+/// The same where one may wait with that key. Where none does, they are not looked through.
+pub(crate) fn take_where<T, A: Allocator>(
+    queries: &mut VecDeque<Held<T>, A>,
+    key: u64,
+    waits: bool,
+) -> Option<Held<T>>
+    requires { waits ≡ false → first_of (held_with key) queries.old.items ≡ None }
+    ensures first { result ≡ first_of (held_with key) queries.old.items }
+    ensures others { queries.new.items ≡ without_first (held_with key) queries.old.items }
+    ensures capacity { deque_capacity queries.new ≡ deque_capacity queries.old }
+{
+    if waits {
+        return take_first(queries, key);
+    }
+    None
 }
 
 /// Drops those that have waited for their time, and says how many.
