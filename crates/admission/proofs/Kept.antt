@@ -1,5 +1,5 @@
 -- What holds of an admission at all times is kept by each move.
-use Rattle.std.proofs.Common.{◌≡◌, ℕ, suc, ◌+◌, ◌<◌, ◌≤◌, Bool, true, false, ◌||◌, List, [], ◌∷◌, ◌++◌, length, Option, Some, None, refl, ap, ◌∙◌, subst, arith, eqb, leb, length-append}
+use Rattle.std.proofs.Common.{◌≡◌, ℕ, zero, suc, ◌+◌, ◌<◌, ◌≤◌, Bool, true, false, ◌||◌, List, [], ◌∷◌, ◌++◌, length, Option, Some, None, refl, ap, ◌∙◌, subst, arith, eqb, leb, length-append}
 use Rattle.std.proofs.lemmas.Bool.{eqb-true, leb-false}
 use Rattle.std.specs.List.{count_by}
 use Rattle.std.specs.Option.{option_to_list}
@@ -8,7 +8,7 @@ use Rattle.admission.specs.declared.queries.Admitted.{Admitted}
 use Rattle.admission.specs.declared.queries.Held.{Held}
 use Rattle.admission.specs.States.{State, state, address_in, admitted_with, admitted_from, held_with, held_from, inside, of_key, waiting_of, of_address, is_shut, IsKept}
 use Rattle.admission.specs.Moves.{first_of, without_first, admitted}
-use Rattle.admission.proofs.Lists.{by_test, one, one-false, count-push, count-append, count-cons, count_without, length_without, none_goes, none_passes, passes}
+use Rattle.admission.proofs.Lists.{by_test, one, one-false, count-push, count-append, count-cons, count_without, length_without, none_first, none_goes, none_passes, passes}
 
 -- None of three where not one of them.
 first_false : (a b c : Bool) → (a || b || c) ≡ false → a ≡ false
@@ -38,6 +38,22 @@ pub kept_as : {T : Type 0} (l : Limits) (a : List Admitted) {r s v w : List (Hel
 kept_as l a {r} {s} {v} {w} e f kept = subst (λ x. IsKept (state l a x w)) e (subst (λ x. IsKept (state l a r x)) f kept)
 
 module _ {T : Type 0} (d : State T) (kept : IsKept d) where
+  none_by : (k n : ℕ) → waiting_of k d ≡ n → of_key k d < d.limits.equal → first_of (held_with k) d.waiting ≡ None
+  none_by k zero e few = none_first (held_with k) d.waiting e
+  none_by k (suc n) e few = let h : of_key k d ≡ d.limits.equal = kept.not_in_vain k (omega (arith, e)) in absurd (omega (arith, few, h))
+
+  -- No query waits where fewer equal ones are inside than may be.
+  none_waits : (k : ℕ) → of_key k d < d.limits.equal → first_of (held_with k) d.waiting ≡ None
+  none_waits k few = none_by k (waiting_of k d) refl few
+
+  -- None waits for the key of one that leaves, where with it fewer equal ones were inside than may be.
+  pub none_called : (q : Admitted) (rest : List Admitted) → ((p : Admitted → Bool) → count_by p rest + one (p q) ≡ count_by p d.admitted)
+      → count_by (admitted_with q.key) rest + count_by (held_with q.key) d.ready + 1 < d.limits.equal → first_of (held_with q.key) d.waiting ≡ None
+  none_called q rest counts few =
+      let m : count_by (admitted_with q.key) rest + one (eqb q.key q.key) ≡ count_by (admitted_with q.key) d.admitted = counts (admitted_with q.key) in
+      let z : one (eqb q.key q.key) ≤ 1 = one_at_most (eqb q.key q.key) in
+      none_waits q.key (omega (arith, few, m, z))
+
   -- A query that is admitted.
   pub kept_admitted : (q : Admitted) → of_key q.key d < d.limits.equal → is_shut (address_in q.client) d ≡ false → IsKept (state d.limits (d.admitted ++ q ∷ []) d.ready d.waiting)
   kept_admitted q few open_to = record { equal = equal; each = each; places = places; few = kept.few; not_in_vain = not_in_vain }

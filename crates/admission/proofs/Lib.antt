@@ -3,3 +3,4 @@ pub mod Kept
 pub mod Steps
 pub mod KeptRuns
 pub mod Lines
+pub mod Waiters

@@ -60,6 +60,15 @@ module _ {X : Type 0} (test : X → Bool) where
       let n : count_by test (y ∷ ys) ≡ one (test y) + count_by test ys = count-cons test y ys in
       omega arith)
 
+  -- Where none passes, none is first.
+  pub none_first : (xs : List X) → count_by test xs ≡ 0 → first_of test xs ≡ None
+  none_first [] e = refl
+  none_first (y ∷ ys) e =
+      let n : count_by test (y ∷ ys) ≡ one (test y) + count_by test ys = count-cons test y ys in
+      by_test (test y)
+      (λ t. let o : one (test y) ≡ 1 = one-true (test y) t in absurd (omega (arith, e, n, o)))
+      (λ f. when_false (Some y) (first_of test ys) f ∙ none_first ys (omega (arith, e, n)))
+
   pub none_goes : (xs : List X) → first_of test xs ≡ None → without_first test xs ≡ xs
   none_goes [] e = refl
   none_goes (y ∷ ys) e = by_test (test y)

@@ -2,3 +2,4 @@
 pub mod States
 pub mod Moves
 pub mod Runs
+pub mod Waiting

@@ -9,10 +9,11 @@ ghost use Rattle.admission.specs.Moves.{Admits, AdmitsNext, admitted, is_enterin
 
 use crate::limits::Limits;
 use crate::places::{
-    address_in, admitted_from, admitted_with, drop_late, held_from, held_with, place_of_entering,
-    place_of_late, place_of_open, take_first,
+    address_in, admitted_from, admitted_with, held_from, held_with, place_of_entering,
+    place_of_late, place_of_open,
 };
 use crate::queries::{Admitted, Decision, Held};
+use crate::queue::Queue;
 use memory::{Heap, Starved};
 use std::alloc::{Allocator, Global};
 use std::collections::VecDeque;
@@ -24,7 +25,7 @@ pub struct Admission<T, A: Allocator = Global> {
     limits: Limits,
     admitted: Vec<Admitted, A>,
     ready: VecDeque<Held<T>, A>,
-    waiting: VecDeque<Held<T>, A>,
+    waiting: Queue<T, A>,
 }
 
 impl<T, A: Allocator> Model for Admission<T, A> {
@@ -36,7 +37,7 @@ impl<T, A: Allocator> Model for Admission<T, A> {
 
     ghost view = { λ d. state d.limits d.admitted.items d.ready.items d.waiting.items };
 
-    ghost invariant = { λ d. IsKept (state d.limits d.admitted.items d.ready.items d.waiting.items) × (d.limits.places ≤ vec_capacity d.admitted) × (d.limits.places ≤ deque_capacity d.ready) × (d.limits.waiting ≤ deque_capacity d.waiting) };
+    ghost invariant = { λ d. IsKept (state d.limits d.admitted.items d.ready.items d.waiting.items) × (d.limits.places ≤ vec_capacity d.admitted) × (d.limits.places ≤ deque_capacity d.ready) × (d.limits.waiting ≤ d.waiting.room) };
 }
 
 impl<T: Drop, A: Heap> Admission<T, A> {
@@ -47,7 +48,7 @@ impl<T: Drop, A: Heap> Admission<T, A> {
     {
         let admitted = Vec::with_capacity(alloc, limits.places)?;
         let ready = VecDeque::with_capacity(alloc, limits.places)?;
-        let waiting = VecDeque::with_capacity(alloc, limits.waiting)?;
+        let waiting = Queue::new(alloc, limits.waiting)?;
         Ok(Admission {
             limits,
             admitted,
@@ -80,7 +81,7 @@ impl<T: Drop, A: Allocator> Admission<T, A> {
             since: moment,
             payload,
         };
-        self.waiting.push_back(query).unwrap();
+        self.waiting.push(query);
         Decision::Waits
     }
 
@@ -147,7 +148,7 @@ impl<T: Drop, A: Allocator> Admission<T, A> {
         ensures first { result ≡ first_of (held_with key) self.old.waiting }
         ensures others { self.new ≡ taken key self.old }
     {
-        take_first(&mut self.waiting, key)
+        self.waiting.take_first(key)
     }
 
     /// The first query that is called in, which is admitted: its step is to be taken now.
@@ -177,7 +178,7 @@ impl<T: Drop, A: Allocator> Admission<T, A> {
         ensures dropped { self.new ≡ dropped now self.old }
         ensures count { result + length self.new.waiting ≡ length self.old.waiting }
     {
-        drop_late(&mut self.waiting, now)
+        self.waiting.drop_late(now)
     }
 
     // Whether no query from the address of that client is admitted now, nor held.
@@ -234,7 +235,7 @@ impl<T: Drop, A: Allocator> Admission<T, A> {
     {
         admitted_from(&self.admitted, address)
             + held_from(&self.ready, address)
-            + held_from(&self.waiting, address)
+            + self.waiting.from_address(address)
     }
 
     // Admits a query, whose step then runs.
@@ -250,13 +251,16 @@ impl<T: Drop, A: Allocator> Admission<T, A> {
         self.admitted.push(query).unwrap();
     }
 
-    // The query at that place leaves, and the first that waits for its key is called in.
+    // The query at that place leaves, and the first that waits for its key is called in. None waits where fewer equal
+    // ones are inside than may be, and then those that wait are not looked through.
     fn leave(&mut self, place: usize)
         requires { place < length self.old.admitted }
         ensures { (q : Admitted) → self.new ≡ called (slice_index_or self.old.admitted place q).key (record self.old { admitted = remove self.old.admitted place }) }
     {
         let gone = self.admitted.remove(place);
-        if let Some(query) = take_first(&mut self.waiting, gone.key) {
+        let left = admitted_with(&self.admitted, gone.key) + held_with(&self.ready, gone.key);
+        let waits = self.limits.equal <= left + 1;
+        if let Some(query) = self.waiting.take_where(gone.key, waits) {
             self.ready.push_back(query).unwrap();
         }
     }

@@ -38,6 +38,7 @@ mod laws;
 mod limits;
 mod places;
 mod queries;
+mod queue;
 
 pub use admission::Admission;
 pub use laws::{fair_law, kept_law, once_law};

@@ -3,7 +3,8 @@ ghost use Rattle.std.specs.Prelude.{◌≡◌, ◌+◌, length};
 ghost use Rattle.std.specs.List.{count_by, filter, position};
 ghost use Rattle.std.specs.VecDeque.{deque_capacity};
 ghost use Rattle.admission.specs.States.{address_in, admitted_with, admitted_from, held_with, held_from};
-ghost use Rattle.admission.specs.Moves.{first_of, without_first, is_entering, is_open, is_late, may_wait};
+ghost use Rattle.admission.specs.Moves.{is_entering, is_open, is_late, may_wait};
+ghost use Rattle.admission.specs.Waiting.{is_address};
 
 use crate::limits::OPEN_MS;
 use crate::queries::{Admitted, Held};
@@ -51,6 +52,13 @@ pub fn held_from<T, A: Allocator>(queries: &VecDeque<Held<T>, A>, address: u64) 
         .count()
 }
 
+/// How many of them are that address.
+pub fn addresses_of(addresses: &[u64], address: u64) -> usize
+    ensures { result ≡ count_by (is_address address) addresses.now }
+{
+    addresses.iter().filter(|other| **other == address).count()
+}
+
 /// Where the first stands that enters with that key, from that client.
 pub fn place_of_entering(queries: &[Admitted], key: u64, client: u64) -> Option<usize>
     ensures { result ≡ position (is_entering key client) queries.now }
@@ -86,23 +94,11 @@ fn is_late(query: &Admitted, now: u64) -> bool
     }
 }
 
-// Where the first stands with that key.
-fn place_of_key<T, A: Allocator>(queries: &VecDeque<Held<T>, A>, key: u64) -> Option<usize>
+/// Where the first stands with that key.
+pub fn place_of_key<T, A: Allocator>(queries: &VecDeque<Held<T>, A>, key: u64) -> Option<usize>
     ensures { result ≡ position (held_with key) queries.now.items }
 {
     queries.iter().position(|query| query.key == key)
-}
-
-/// Takes the first query with that key out of those that wait.
-pub fn take_first<T, A: Allocator>(queries: &mut VecDeque<Held<T>, A>, key: u64) -> Option<Held<T>>
-    ensures first { result ≡ first_of (held_with key) queries.old.items }
-    ensures others { queries.new.items ≡ without_first (held_with key) queries.old.items }
-    ensures capacity { deque_capacity queries.new ≡ deque_capacity queries.old }
-{
-    match place_of_key(queries, key) {
-        Some(place) => queries.remove(place),
-        None => None,
-    }
 }
 
 /// Drops those that have waited for their time, and says how many.

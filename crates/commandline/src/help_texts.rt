@@ -301,5 +301,5 @@ pub(crate) const CONFIG_CHECKED: &[&str] = &[
 /// What `trace` prints, and what its faults mean.
 pub(crate) const TRACED: &[&str] = &[
     STEPS, REPLY, KEYS, FAULTS, FILE_FAULT, ZONE_FAULT, LINE_FAULT, UNREADABLE, NAME_FAULT,
-    TYPE_FAULT, SETTINGS, THREADS, MEMORY, OUTPUT, STATUSES,
+    TYPE_FAULT, SETTINGS, MEMORY, OUTPUT, STATUSES,
 ];

@@ -14,6 +14,7 @@ use Rattle.zone.specs.declared.fault.ZoneError.{ZoneError}
 use Rattle.zone.specs.declared.fault.ZoneError.TheVariants.{Soa, NoServers, ForeignOwner, CnameClash, MixedTtls, DataAtCut, InnerStar, WildcardAuthority, WildcardBeneathCut, Memory}
 use Rattle.rdata.specs.Data.{type_of}
 use Rattle.config_report.specs.Sentences.{rule_sentence}
+use Rattle.config_report.specs.Shown.{shown_text}
 
 -- The record breaks the rule, in a zone of these records. What is missing is no record.
 abbrev pub breaks : Zone → ZoneError → Record → Bool
@@ -39,7 +40,8 @@ word_of (Some t) = type_word t
 
 -- The path, the owner, the type and the sentence.
 abbrev pub rule_text : List ℕ → List (List ℕ) → ℕ → ZoneError → List ℕ
-rule_text path owner type e = path ++ codes ": " ++ name_text owner ++ codes " " ++ word_of (type_by type) ++ codes ": " ++ rule_sentence e ++ codes "\n"
+rule_text path owner type e =
+    shown_text path ++ codes ": " ++ name_text owner ++ codes " " ++ word_of (type_by type) ++ codes ": " ++ rule_sentence e ++ codes "\n"
 
 abbrev pub said_of_rule : List ℕ → Zone → ZoneError → Option Record → List ℕ
 said_of_rule path z e None = rule_text path z.origin (rule_type e) e

@@ -3,3 +3,4 @@ pub mod Sentences
 pub mod Reports
 pub mod Culprits
 pub mod Notes
+pub mod Shown

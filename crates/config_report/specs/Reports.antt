@@ -6,6 +6,7 @@ use Rattle.text_lines.specs.declared.fault.LineKind.{LineKind}
 use Rattle.text_lines.specs.declared.fault.LineError.{LineError}
 use Rattle.masterfile.specs.declared.faults.FileError.{FileError}
 use Rattle.config_report.specs.Sentences.{file_sentence, line_sentence, word_count}
+use Rattle.config_report.specs.Shown.{shown_text}
 
 -- The line of this number, counted from 1.
 abbrev pub line_at : ℕ → List (List ℕ) → Option (List ℕ)
@@ -14,7 +15,11 @@ line_at n (l ∷ ls) = cond (nat_lt 1 n) (line_at (n - 1) ls) (Some l)
 
 -- The path, the number of the line, the line, and the sentence.
 abbrev pub report_text : List ℕ → ℕ → List ℕ → List ℕ → List ℕ
-report_text path n line sentence = path ++ codes ":" ++ decimal n ++ codes ": " ++ line ++ codes ": " ++ sentence ++ codes "\n"
+report_text path n line sentence =
+    shown_text path ++ codes ":" ++ decimal n ++ codes ": " ++ shown_text line ++ codes ": " ++ sentence ++ codes "\n"
+
+abbrev pub no_listen_text : List ℕ → List ℕ
+no_listen_text path = shown_text path ++ codes ": no line listen ADDRESS PORT says where to serve\n"
 
 abbrev pub first_or_none : List (List ℕ) → List ℕ
 first_or_none [] = []
@@ -27,7 +32,7 @@ line_sentence_of line kind =
 
 -- Behind the last line: that none says where to listen.
 abbrev pub said_of_line : List ℕ → LineError → Option (List ℕ) → List ℕ
-said_of_line path e None = path ++ codes ": no line listen ADDRESS PORT says where to serve\n"
+said_of_line path e None = no_listen_text path
 said_of_line path e (Some line) = report_text path e.line line (line_sentence_of line e.kind)
 
 abbrev pub line_report_text : List ℕ → List ℕ → LineError → List ℕ

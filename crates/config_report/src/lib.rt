@@ -5,7 +5,8 @@
 //! be meant, and `put_total` the line of what it makes.
 //!
 //! Promised: each text exactly, with the line of the file or the record that it is about (`line_report_text`,
-//! `file_report_text`, `zone_report_text`, `notes_text`).
+//! `file_report_text`, `zone_report_text`, `notes_text`). No byte of a file rules a terminal: of one that is not
+//! printed the number stands (`shown_text`).
 //! Not here: reading files and trying sockets (`commands`).
 //!
 //! ```text
@@ -20,6 +21,7 @@ mod findings;
 mod lines;
 mod rules;
 mod sentences;
+mod shown;
 
 pub use findings::{notes, put_total};
 pub use lines::{file_report, line_report};

@@ -2,15 +2,17 @@
 ghost use Rattle.std.specs.Prelude.{◌≡◌, IfOk, length, nat_eq, option_map, string_bytes};
 ghost use Rattle.text_lines.specs.Lines.{lines};
 ghost use Rattle.text_lines.specs.Texts.{stated_words};
-ghost use Rattle.config_report.specs.Reports.{file_report_text, first_or_none, line_at, line_report_text, line_sentence_of, report_text};
+ghost use Rattle.config_report.specs.Reports.{file_report_text, first_or_none, line_at, line_report_text, line_sentence_of, no_listen_text, report_text};
 
 use crate::sentences::{file_sentence, line_sentence, word_count};
+use crate::shown::Shown;
 use masterfile::FileError;
 use memory::{Heap, Starved};
 use text_lines::{LineError, LineKind, LineWords, TextLines};
 
-/// `PATH:LINE: WORDS: SENTENCE` of a line of a server's file that is refused: of the line as it stands there, and what
-/// may stand there. Behind the last line: that none says where to listen.
+/// `PATH:LINE: WORDS: SENTENCE` of a line of a server's file that is refused: of the line that stands there, and what
+/// may stand there. Behind the last line: that none says where to listen. Of a byte that is not printed, as an escape
+/// that would rule a terminal, the number stands behind a backslash.
 pub fn line_report<A: Heap>(
     alloc: A,
     path: &str,
@@ -21,7 +23,7 @@ pub fn line_report<A: Heap>(
 {
     match line_at(text, error.line) {
         Some(line) => report(alloc, path, error.line, line, sentence_of(line, error.kind)),
-        None => Ok(format!(in alloc; "{path}: no line listen ADDRESS PORT says where to serve\n")?),
+        None => no_listen(alloc, path),
     }
 }
 
@@ -38,6 +40,13 @@ pub fn file_report<A: Heap>(
     report(alloc, path, error.line, line, file_sentence(error.kind))
 }
 
+fn no_listen<A: Heap>(alloc: A, path: &str) -> Result<String<A>, Starved>
+    ensures { IfOk result (λ s. string_bytes s ≡ no_listen_text path.now) }
+{
+    let path = Shown(path);
+    Ok(format!(in alloc; "{path}: no line listen ADDRESS PORT says where to serve\n")?)
+}
+
 fn report<A: Heap>(
     alloc: A,
     path: &str,
@@ -47,6 +56,7 @@ fn report<A: Heap>(
 ) -> Result<String<A>, Starved>
     ensures { IfOk result (λ s. string_bytes s ≡ report_text path.now number line.now sentence.now) }
 {
+    let (path, line) = (Shown(path), Shown(line));
     Ok(format!(in alloc; "{path}:{number}: {line}: {sentence}\n")?)
 }
 

@@ -11,6 +11,7 @@ ghost use Rattle.zone.specs.Rules.{clashes, differs, is_out_of_place, is_wildcar
 ghost use Rattle.config_report.specs.Culprits.{breaks, rule_type, rule_text, zone_report_text};
 
 use crate::sentences::rule_sentence;
+use crate::shown::Shown;
 use dname::{Name, Suffix};
 use memory::{Heap, Starved};
 use rdata::{RType, Record};
@@ -67,7 +68,7 @@ fn rule_line<A: Heap>(
 ) -> Result<String<A>, Starved>
     ensures { IfOk result (λ s. string_bytes s ≡ rule_text path.now owner.now (type_number kind) error) }
 {
-    let sentence = rule_sentence(error);
+    let (path, sentence) = (Shown(path), rule_sentence(error));
     Ok(format!(in alloc; "{path}: {owner} {kind}: {sentence}\n")?)
 }
 

@@ -32,7 +32,7 @@ invariant_of-self g c =
     let many : b.limits.equal ≤ of_key c.args.key d = subst (λ s. b.limits.equal ≤ of_key c.args.key s) (sym c.self.view_is) (subst (λ n. b.limits.equal ≤ n) c.of_key.ensures c.if-of_key-self.false) in
     let open_to : is_shut (address_in c.args.client) d ≡ false = subst (λ s. is_shut (address_in c.args.client) s ≡ false) (sym c.self.view_is) (sym c.is_shut.ensures ∙ c.if-is_shut.false) in
     let room : length b.waiting.items < b.limits.waiting = search rules in
-    let items : c.push_back.new.self.items ≡ b.waiting.items ++ q ∷ [] = rw c.unwrap.ensures at c.push_back.ensures.items in (
+    let items : c.push.new.self.items ≡ b.waiting.items ++ q ∷ [] = c.push.ensures.items in (
       kept_as b.limits b.admitted.items refl (sym items) (kept_waiting d c.self.invariant.0 q many open_to room),
       search rules,
       search rules,
@@ -46,9 +46,9 @@ returns g c =
     let q = held c.args.key c.args.client c.args.moment c.args.payload in
     let l = ap (λ s. s.limits) c.self.view_is in
     let room : length b.waiting.items < b.limits.waiting = search rules in
-    let items : c.push_back.new.self.items ≡ b.waiting.items ++ q ∷ [] = rw c.unwrap.ensures at c.push_back.ensures.items in (
+    let items : c.push.new.self.items ≡ b.waiting.items ++ q ∷ [] = c.push.ensures.items in (
       sym c.is_shut.ensures ∙ c.if-is_shut.false,
       subst (λ l. l.equal ≤ of_key c.args.key c.args.self.now) l (subst (λ n. b.limits.equal ≤ n) c.of_key.ensures c.if-of_key-self.false),
       subst (λ s. length s.waiting < s.limits.waiting) c.self.view_is room,
-      waits_longer d c.args.self.now q c.push_back.new.self.items c.self.view_is items,
+      waits_longer d c.args.self.now q c.push.new.self.items c.self.view_is items,
     )
