@@ -8,6 +8,7 @@ use Rattle.wire.specs.declared.via.Via.{Via}
 use Rattle.zone.specs.Links.{Link, Found, Alias, NoData, NxDomain}
 use Rattle.zone.specs.Look.{Local, Linked, Cut, NotHere}
 use Rattle.front.specs.Queries.{IsRequest}
+use Rattle.front.specs.Replies.{reply_of}
 use Rattle.front.specs.declared.queries.Outcome.{Outcome}
 use Rattle.front.specs.declared.queries.Query.{Query}
 use Rattle.front.specs.declared.queries.Request.TheVariants as request
@@ -18,7 +19,7 @@ use Rattle.resolution.specs.Rules.{Says, IsRemote, asked_by, asked_of}
 use Rattle.lookup.specs.Held.{ends_by, IsAtHand}
 use Rattle.runs.specs.States.{Event, Action, ClientQuery, client_query, Plain, Turn, Site, State, latest}
 use Rattle.runs.specs.States as told
-use Rattle.runs.specs.Messages.{reply_of, IsReply}
+use Rattle.runs.specs.Messages.{IsReply}
 use Rattle.runs.specs.Runs.{Run}
 use Rattle.runs.proofs.Clocks.{clock_of_run}
 use Rattle.laws.specs.Held.{IsHeldChain}
@@ -78,14 +79,15 @@ module _ (site : Site) (past : List Turn) (s : State) (now client : ℕ) (way : 
   Alone = (given : List ℕ) × (cause : Option Cause) × (out ≡ told.Reply client way given cause ∷ [])
 
   alone : (o : Outcome Plain) (action : Action) → IsReply (client_query client way q) o action → out ≡ action ∷ [] → Alone
-  alone o action reply is = (reply.0, (reply_of way q o).1, is ∙ ap (λ (a : Action). a ∷ []) reply.1.1)
+  alone o action reply is = (reply.0, (reply_of way q o).1, is ∙ ap (λ (a : Action). a ∷ []) reply.2)
 
   query_alone : Run site past s → IsRequest bytes (request.Query q) → HasEnd s (min now latest) q → Steps s (told.Client now client way bytes) (Some out) new → Alone
   query_alone legal asks has steps = by (q.start).rd refl
     where
       by : (rd : Bool) → (q.start).rd ≡ rd → Alone
       by false lacks =
-          let (served, o, action, reply, is) = (steps.promises site past legal).at_hand now client way bytes out (request.Query q) refl refl asks lacks in
+          let (served, said) = (steps.promises site past legal).at_hand now client way bytes out (request.Query q) refl refl asks lacks in
+          let (o, action, reply, is) = said in
           alone o action reply is
       by true wants =
           let here : IsAtHand (s.site).home (max s.clock (min now latest)) q.name (type_number q.kind) s.stores = elim has [
@@ -94,12 +96,13 @@ module _ (site : Site) (past : List Turn) (s : State) (now client : ℕ) (way : 
           ] in
           let (l, chain) = held_chain (s.site).home (max s.clock (min now latest)) q.name (type_number q.kind) s.stores here in
           let ours = subst (λ (h : Home). IsHeldChain h (max s.clock (min now latest)) (type_number q.kind) (s.stores).cache q.name [] l) (ap (λ (x : Site). x.home) (clock_of_run site past s legal).1) chain in
-          let (served, action, reply, is) = (steps.promises site past legal).held now client way bytes out q [] l refl refl asks wants (omega arith) ours in
+          let (served, said) = (steps.promises site past legal).held now client way bytes out q [] l refl refl asks wants (omega arith) ours in
+          let (action, reply, is) = said in
           alone _ action reply is
 
 pub at_hand_asks_nobody : AtHandAsksNobody
 at_hand_asks_nobody site past s e (Client now client way (request.Query q)) out new legal reads has steps =
-    query_alone site past s now client way reads.0 q out new legal reads.1.1 has (subst (λ (x : Event). Steps s x (Some out) new) reads.1.0 steps)
+    query_alone site past s now client way reads.0 q out new legal reads.2 has (subst (λ (x : Event). Steps s x (Some out) new) reads.1 steps)
 at_hand_asks_nobody site past s e (Client now client way request.Drop) out new legal reads has steps = absurd has
 at_hand_asks_nobody site past s e (Client now client way (request.Refuse refusal start echo)) out new legal reads has steps = absurd has
 at_hand_asks_nobody site past s e (Datagram now sock from reading) out new legal reads has steps = absurd has
