@@ -21,9 +21,9 @@ pub type ByDue<A> = BTreeSet<(u64, u64), A>;
 
 // Room for one more query and one more ask.
 pub fn make_room<A: Heap>(open: &mut Open<A>, by_ask: &mut ByAsk<A>) -> Result<(), Starved>
-    ensures open { AreSame open.old.entries open.new.entries }
+    ensures open { AreSame «open».old.entries «open».new.entries }
     ensures by_ask { (ask : AskKeySpec) (query : ℕ) → points by_ask.new.entries ask query ≡ points by_ask.old.entries ask query }
-    ensures room { OnOk result ((0 < spare open.new) × (0 < spare by_ask.new)) }
+    ensures room { OnOk result ((0 < spare «open».new) × (0 < spare by_ask.new)) }
 {
     open.reserve(1)?;
     by_ask.reserve(1)?;

@@ -54,7 +54,7 @@ fn record_line<A: Heap>(
     record: &Record<A>,
     error: ZoneError,
 ) -> Result<String<A>, Starved>
-    ensures { IfOk result (λ s. string_bytes s ≡ rule_text path.now record.now.owner (type_of record.now.value) error) }
+    ensures { IfOk result (λ s. string_bytes s ≡ rule_text path.now «record».now.owner (type_of «record».now.value) error) }
 {
     rule_line(alloc, path, &record.owner, record.value.kind(), error)
 }
@@ -89,7 +89,7 @@ fn breaks<A: Allocator>(
     records: &[Record<A>],
     record: &Record<A>,
 ) -> bool
-    ensures { result ≡ breaks (zone_with origin.now records.now) error record.now }
+    ensures { result ≡ breaks (zone_with origin.now records.now) error «record».now }
 {
     match error {
         ZoneError::Soa => record.is(RType::Soa) && record.owner != *origin,
@@ -108,28 +108,28 @@ fn breaks<A: Allocator>(
 
 // Whether another record than its own repeat stands at the record's name.
 fn has_company<A: Allocator>(record: &Record<A>, records: &[Record<A>]) -> bool
-    ensures { result ≡ list_any (λ s. clashes record.now s) records.now }
+    ensures { result ≡ list_any (λ s. clashes «record».now s) records.now }
 {
     records.iter().any(|other| clashes(record, other))
 }
 
 // Whether the other record stands at the record's name, and is not its repeat.
 fn clashes<A: Allocator>(record: &Record<A>, other: &Record<A>) -> bool
-    ensures { result ≡ clashes record.now other.now }
+    ensures { result ≡ clashes «record».now other.now }
 {
     other.owner == record.owner && !record.value.is_same(&other.value)
 }
 
 // Whether a record of the same set has another TTL.
 fn has_other_ttl<A: Allocator>(record: &Record<A>, records: &[Record<A>]) -> bool
-    ensures { result ≡ list_any (λ s. differs record.now s) records.now }
+    ensures { result ≡ list_any (λ s. differs «record».now s) records.now }
 {
     records.iter().any(|other| differs(record, other))
 }
 
 // Whether both are of one set, with different TTLs. The TTLs are compared first, which is the least work.
 fn differs<A: Allocator>(record: &Record<A>, other: &Record<A>) -> bool
-    ensures { result ≡ differs record.now other.now }
+    ensures { result ≡ differs «record».now other.now }
 {
     record.ttl != other.ttl
         && record.value.kind() == other.value.kind()
@@ -142,7 +142,7 @@ fn is_out_of_place<A: Allocator>(
     records: &[Record<A>],
     record: &Record<A>,
 ) -> bool
-    ensures { result ≡ is_out_of_place (zone_with origin.now records.now) record.now }
+    ensures { result ≡ is_out_of_place (zone_with origin.now records.now) «record».now }
 {
     if record.is(RType::A) || record.is(RType::Aaaa) {
         return false;
@@ -152,7 +152,7 @@ fn is_out_of_place<A: Allocator>(
 }
 
 fn is_wildcard_authority<A: Allocator>(record: &Record<A>) -> bool
-    ensures { result ≡ is_wildcard_authority record.now }
+    ensures { result ≡ is_wildcard_authority «record».now }
 {
     record.owner.is_wildcard() && (record.is(RType::Ns) || record.is(RType::Soa))
 }
@@ -185,13 +185,13 @@ fn owns_ns<A: Allocator>(records: &[Record<A>], name: &Suffix<'_>) -> bool
 }
 
 fn is_ns_of<A: Allocator>(record: &Record<A>, name: &Suffix<'_>) -> bool
-    ensures { result ≡ (is_owned name.now record.now && is_type ns_type record.now) }
+    ensures { result ≡ (is_owned name.now «record».now && is_type ns_type «record».now) }
 {
     is_at(record, name) && record.is(RType::Ns)
 }
 
 fn is_at<A: Allocator>(record: &Record<A>, name: &Suffix<'_>) -> bool
-    ensures { result ≡ is_owned name.now record.now }
+    ensures { result ≡ is_owned name.now «record».now }
 {
     name.is(&record.owner)
 }

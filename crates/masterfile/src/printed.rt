@@ -34,7 +34,7 @@ pub fn print<A: Heap, B: Allocator>(
 }
 
 fn put_line<A: Allocator, B: Heap>(out: &mut String<B>, record: &Record<A>) -> Result<(), Starved>
-    ensures { OnOk result (string_bytes out.new ≡ string_bytes out.old ++ line_text record.now) }
+    ensures { OnOk result (string_bytes out.new ≡ string_bytes out.old ++ line_text «record».now) }
 {
     put_record(out, record)?;
     out.push('\n')?;
@@ -47,7 +47,7 @@ pub fn put_record<A: Allocator, B: Heap>(
     out: &mut String<B>,
     record: &Record<A>,
 ) -> Result<(), Starved>
-    ensures ok { OnOk result (string_bytes out.new ≡ string_bytes out.old ++ record_text record.now) }
+    ensures ok { OnOk result (string_bytes out.new ≡ string_bytes out.old ++ record_text «record».now) }
     ensures err { OnErr result (string_bytes out.new ≡ string_bytes out.old) }
 {
     let text = record.to_string(*out.allocator())?;

@@ -163,8 +163,8 @@ fn may_be_open(query: &Arrival, now: u64) -> bool
 
 // Where as many are noted as may be, those leave whose reply can't come any more.
 fn make_room(open: &mut Vec<Arrival>, now: u64)
-    ensures items { open.new.items ≡ staying now open.old.items }
-    ensures capacity { vec_capacity open.new ≡ vec_capacity open.old }
+    ensures items { «open».new.items ≡ staying now «open».old.items }
+    ensures capacity { vec_capacity «open».new ≡ vec_capacity «open».old }
 {
     if open.len() >= MAX_OPEN_QUERIES {
         open.retain(|query| may_be_open(query, now));
@@ -173,9 +173,9 @@ fn make_room(open: &mut Vec<Arrival>, now: u64)
 
 // One query more that is open.
 fn note(open: &mut Vec<Arrival>, came: Arrival, now: u64)
-    ensures either { (open.new.items ≡ staying now open.old.items) ⊎ (open.new.items ≡ staying now open.old.items ++ came ∷ []) }
-    ensures full { 1_024 ≤ length (staying now open.old.items) → open.new.items ≡ staying now open.old.items }
-    ensures room { length (staying now open.old.items) < 1_024 → length (staying now open.old.items) < vec_capacity open.old → open.new.items ≡ staying now open.old.items ++ came ∷ [] }
+    ensures either { («open».new.items ≡ staying now «open».old.items) ⊎ («open».new.items ≡ staying now «open».old.items ++ came ∷ []) }
+    ensures full { 1_024 ≤ length (staying now «open».old.items) → «open».new.items ≡ staying now «open».old.items }
+    ensures room { length (staying now «open».old.items) < 1_024 → length (staying now «open».old.items) < vec_capacity «open».old → «open».new.items ≡ staying now «open».old.items ++ came ∷ [] }
 {
     make_room(open, now);
     if open.len() < MAX_OPEN_QUERIES {
@@ -185,7 +185,7 @@ fn note(open: &mut Vec<Arrival>, came: Arrival, now: u64)
 
 // When the query came of this client with this ID, which is open no more.
 fn take(open: &mut Vec<Arrival>, asker: Asker, id: u16) -> Option<u64>
-    ensures { MatchOption result (IsUnknown asker id open.old.items open.new.items) (IsTaken asker id open.old.items open.new.items) }
+    ensures { MatchOption result (IsUnknown asker id «open».old.items «open».new.items) (IsTaken asker id «open».old.items «open».new.items) }
 {
     match place_of(open, asker, id) {
         Some(place) => Some(open.swap_remove(place).moment),
