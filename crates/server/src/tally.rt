@@ -195,7 +195,7 @@ fn take(open: &mut Vec<Arrival>, asker: Asker, id: u16) -> Option<u64>
 
 // Where the first stands of this client with this ID.
 fn place_of(open: &Vec<Arrival>, asker: Asker, id: u16) -> Option<usize>
-    ensures { result ≡ position (is_of asker id) open.now.items }
+    ensures { result ≡ position (is_of asker id) «open».now.items }
 {
     open.iter().position(|query| is_of(query, asker, id))
 }
