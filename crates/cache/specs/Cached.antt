@@ -101,18 +101,6 @@ abbrev pub hit_of : Option (Key × Hit) → Option Hit
 hit_of None = None
 hit_of (Some a) = Some a.1
 
--- Whether a link is an end: no alias, and so the whole answer.
-abbrev pub is_end : Link → Bool
-is_end (Found rs) = true
-is_end (Alias r) = false
-is_end (NoData soa) = true
-is_end (NxDomain soa) = true
-
--- Whether there is an answer that is an end.
-abbrev pub has_end : Option Hit → Bool
-has_end None = false
-has_end (Some h) = is_end h.link
-
 -- A question, and the names above its name of which an NXDOMAIN denies it too, the nearest first (RFC 8020, section 2).
 pub record Question : Type 0 where
   pub name : List (List ℕ)

@@ -7,7 +7,7 @@ ghost use Rattle.rdata.specs.Types.{type_number};
 ghost use Rattle.zone.specs.Views.{link_view};
 ghost use Rattle.lru_laws.specs.Orders.{KeepsOnly, LosesOnly, HasSame};
 ghost use Rattle.cache.specs.Keys.{same_key, key_for, error_key};
-ghost use Rattle.cache.specs.Cached.{as_kept, kept_ttl, is_error, live_at, set_at, alias_at, under, answer, asked_to, above_to, error_above, hit_of, has_end, lent, moved, swept, stored, after_keep, IsKept, IsGone, IsHeld, IsMiss};
+ghost use Rattle.cache.specs.Cached.{as_kept, kept_ttl, is_error, live_at, set_at, alias_at, under, answer, asked_to, above_to, error_above, hit_of, lent, moved, swept, stored, after_keep, IsKept, IsGone, IsHeld, IsMiss};
 ghost use Rattle.cache.specs.Packed.{hit_of_packed};
 
 use crate::hit::Hit;
@@ -64,16 +64,6 @@ fn denies<A: Allocator>(link: &Link<A>) -> bool
     ensures { result ≡ is_error (link_view link.now) }
 {
     matches!(link, Link::NxDomain(_))
-}
-
-// Whether it is a link other than an alias.
-fn is_end<A: Allocator>(hit: Option<Hit<A>>) -> bool
-    ensures { result ≡ has_end hit }
-{
-    match hit {
-        Some(hit) => !matches!(hit.link, Link::Alias(_)),
-        None => false,
-    }
 }
 
 // Makes the name the one above it; false where that is not at or under `top`.
@@ -183,16 +173,16 @@ impl<S: BuildHasher + Drop, A: Heap> Cache<S, A> {
         Ok(hit)
     }
 
-    /// Whether `look` would give a link that is no alias at the moment `now`, in milliseconds: an RRset, or a negative
-    /// answer. No entry is used by that: their order stays as it is.
-    pub fn holds(
+    /// What `look` would give at the moment `now`, in milliseconds. No entry is used by that: their order stays as it
+    /// is.
+    pub fn peek(
         &self,
         name: &Name<A>,
         kind: RType,
         top: &Name<A>,
         now: u64,
-    ) -> Result<bool, Starved>
-        ensures { IfOk result (λ b. b ≡ has_end (hit_of (lent (asked_to top.now name.now (type_number kind)) now self.now.entries))) }
+    ) -> Result<Option<Hit<A>>, Starved>
+        ensures { IfOk result (λ h. h ≡ hit_of (lent (asked_to top.now name.now (type_number kind)) now self.now.entries)) }
     {
         let mut key = Key {
             name: name.clone()?,
@@ -200,7 +190,7 @@ impl<S: BuildHasher + Drop, A: Heap> Cache<S, A> {
         };
         let found = self.find(&mut key, kind, top, now);
         drop(key);
-        Ok(is_end(found?))
+        found
     }
 
     // A key of this name, in the memory of the last key.
