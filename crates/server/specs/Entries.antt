@@ -1,5 +1,5 @@
 -- What becomes of queries that ask for admission.
-use Rattle.std.specs.Prelude.{◌≡◌, ℕ, Bool, true, false, cond, ◌⊎◌, ◌&&◌, nat_le, nat_lt, Option, Some, None, List, length}
+use Rattle.std.specs.Prelude.{◌≡◌, ℕ, ◌-◌, ◌⊎◌, Bool, true, false, cond, ◌&&◌, nat_le, nat_lt, Option, Some, None, List, ◌++◌, length, take, drop}
 use Rattle.std.specs.Bool.{MatchBool}
 use Rattle.std.specs.declared.hash.DefaultHasher.{DefaultHasher}
 use Rattle.causes.specs.declared.cause.Cause.{Cause}
@@ -7,6 +7,7 @@ use Rattle.runs.specs.States.{Action as ActionSpec, Reply}
 use Rattle.events.specs.declared.action.Action.{Action}
 use Rattle.events.specs.declared.action.Action.TheVariants as said
 use Rattle.admission.specs.States.{State, of_key}
+use Rattle.dispatch.specs.Questions.{HasQuestion}
 use Rattle.admission.specs.Moves.{Admits, is_entering, opened, left}
 use Rattle.admission.specs.declared.queries.Decision.{Decision}
 use Rattle.admission.specs.declared.queries.Decision.TheVariants as decision
@@ -98,14 +99,18 @@ is_here (Admitted question) = true
 is_here standing.Held = false
 is_here standing.Dropped = true
 
--- How a question stands by what admission decided. One that is dropped may be free where the machine holds its answer:
--- its step asks no server, so that it needs no place.
+-- How a question stands by what admission decided. One that is dropped is free in place of that where the machine holds
+-- its answer: its step asks no server, so that it needs no place.
 abbrev pub IsLetBy : Type 0 → Standing → Standing → Type 0
 IsLetBy holds Free stands = stands ≡ Free
 IsLetBy holds (Asks question) stands = stands ≡ Asks question
 IsLetBy holds (Admitted question) stands = stands ≡ Admitted question
 IsLetBy holds standing.Held stands = stands ≡ standing.Held
-IsLetBy holds standing.Dropped stands = (stands ≡ standing.Dropped) ⊎ (holds × (stands ≡ Free))
+IsLetBy holds standing.Dropped stands = (holds × (stands ≡ Free)) ⊎ ((holds → ⊥) × (stands ≡ standing.Dropped))
+
+-- Admission drops it, and so it stands from now on.
+abbrev pub StaysDropped : Standing → Standing → Type 0
+StaysDropped decided stands = (decided ≡ standing.Dropped) × (stands ≡ standing.Dropped)
 
 -- What admission is told of a message whose step was taken, and asked a server or not: a question that asked one is
 -- open since that moment, and any other leaves.
@@ -132,3 +137,10 @@ cause_in (said.TcpAsk number to bytes) = None
 -- The failure goes to who asked, by the way by which he asked, with the cause of the one that failed.
 abbrev pub failure_copy : {A : Type 0} → Action A → Asker → List ℕ → ActionSpec
 failure_copy failed asker bytes = Reply asker.client asker.way bytes (cause_in failed)
+
+-- The bytes of a failure as the reply to an equal query: under its ID, and with its question as it is spelt there.
+-- Where the query's name does not stand in full, all behind the ID is the failure's.
+abbrev pub IsFailureFor : List ℕ → List ℕ → List ℕ → Type 0
+IsFailureFor failure query bytes =
+    ((end : ℕ) × HasQuestion query end × (bytes ≡ take 2 query ++ (take 10 (drop 2 failure) ++ take (end - 12) (drop 12 query))))
+    ⊎ (((end : ℕ) → HasQuestion query end → ⊥) × (bytes ≡ take 2 query ++ drop 2 failure))

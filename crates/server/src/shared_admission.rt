@@ -1,11 +1,11 @@
 //! Admission of clients' questions to the resolver: of equal ones few are under way at a time, the others wait.
-ghost use Rattle.std.specs.Prelude.{◌≡◌, ◌≤◌, IfSome, length, map};
+ghost use Rattle.std.specs.Prelude.{◌≡◌, ◌≤◌, ◌++◌, IfSome, length, map, take, drop};
 ghost use Rattle.std.specs.Char.{to_ascii_lowercase};
 ghost use Rattle.events.specs.Views.{action_view};
 ghost use Rattle.typed.specs.Views.{parsed_view};
 ghost use Rattle.server.specs.Askers.{admission_client};
 ghost use Rattle.server.specs.Keys.{key_of, query_key, IsKeyIn};
-ghost use Rattle.server.specs.Entries.{IsEntry, IsAdmitted, IsDecided, IsStanding, failure_copy};
+ghost use Rattle.server.specs.Entries.{IsEntry, IsAdmitted, IsDecided, IsFailureFor, IsStanding, failure_copy};
 
 use crate::passage::Standing;
 use crate::query::{Asker, Query, asker_of};
@@ -86,6 +86,19 @@ fn copied_failure(failed: &Action, asker: Asker, bytes: Bytes) -> Action
         bytes,
         cause,
     }
+}
+
+// A failure under the ID of a query. None where that has no ID, or no memory is left.
+fn under_id(alloc: Global, failure: &[u8], query: &[u8]) -> Option<Vec<u8>>
+    requires { 12 ≤ length failure.now }
+    ensures bytes { IfSome result (λ v. v.items ≡ take 2 query.now ++ drop 2 failure.now) }
+    ensures long { IfSome result (λ v. length v.items ≡ length failure.now) }
+{
+    let id = query.get(..2)?;
+    let mut bytes = Vec::with_capacity(alloc, failure.len()).ok()?;
+    bytes.extend_from_slice(id).ok()?;
+    bytes.extend_from_slice(&failure[2..]).ok()?;
+    Some(bytes)
 }
 
 /// The admission that the loops share, and the hash of what is asked.
@@ -248,14 +261,13 @@ impl SharedAdmission {
     fn failure_of(&self, failure: &[u8], query: &Bytes) -> Option<Bytes>
         requires header { 12 ≤ length failure.now }
         requires short { length failure.now ≤ 65535 }
+        ensures { IfSome result (IsFailureFor failure.now query.now) }
     {
         let query = query.as_slice();
         if let Some(end) = question_end(query) {
             return failure_for(self.alloc, failure, query, end).ok();
         }
-        let mut bytes = Vec::from_slice(self.alloc, failure).ok()?;
-        bytes[..2].copy_from_slice(query.get(..2)?);
-        Some(Bytes::new(bytes))
+        Some(Bytes::new(under_id(self.alloc, failure, query)?))
     }
 
     /// A question that is called in.
