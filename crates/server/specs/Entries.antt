@@ -22,20 +22,6 @@ use Rattle.server.specs.declared.passage.Standing.TheVariants as standing
 use Rattle.server.specs.declared.shared_admission.Question.{Question}
 use Rattle.server.specs.declared.query.Asker.{Asker}
 use Rattle.server.specs.declared.query.Query.{Query}
-use Rattle.server.specs.declared.shared_admission.Entry.{Entry}
-use Rattle.server.specs.declared.shared_admission.Entry.TheVariants.{In, Held, Dropped}
-
--- What is admitted is stepped, what waits is held, and what is refused is dropped.
-abbrev pub IsEntry : Decision Query → Entry → Type 0
-IsEntry (decision.In query) entry = entry ≡ In query
-IsEntry decision.Waits entry = entry ≡ Held
-IsEntry (decision.Refused query) entry = entry ≡ Dropped query
-
--- Admission decided so on the query, and this becomes of it.
-pub record IsDecided (before : State Query) (key client moment : ℕ) (query : Query) (entry : Entry) (after : State Query) : Type 0 where
-  pub decision : Decision Query
-  pub admits : Admits before key client moment query decision after
-  pub becomes : IsEntry decision entry
 
 -- A query asks for admission, under the key of what it asks and the number of its client. What is no query needs none.
 abbrev pub IsStanding : DefaultHasher → Parsed → Standing → Type 0
@@ -65,24 +51,24 @@ is_passed standing.Dropped = false
 abbrev pub is_too_long : State Query → ℕ → List ℕ → Bool
 is_too_long d key bytes = nat_lt 512 (length bytes) && nat_le d.limits.equal (of_key key d)
 
--- How a question stands by the entry that it had.
-abbrev pub standing_by : Question → Entry → Standing
-standing_by question (In query) = Admitted question
-standing_by question Held = standing.Held
-standing_by question (Dropped query) = standing.Dropped
+-- How a question stands by what was decided of its query.
+abbrev pub standing_by : Question → Decision Query → Standing
+standing_by question (decision.In query) = Admitted question
+standing_by question decision.Waits = standing.Held
+standing_by question (decision.Refused query) = standing.Dropped
 
--- The query that is still here by this entry.
-abbrev pub query_by : Entry → Option Query
-query_by (In query) = Some query
-query_by Held = None
-query_by (Dropped query) = Some query
+-- The query that is still here then.
+abbrev pub query_by : Decision Query → Option Query
+query_by (decision.In query) = Some query
+query_by decision.Waits = None
+query_by (decision.Refused query) = Some query
 
 -- Admission decided so on a question that came at this moment in that query.
 pub record IsAsked (before : State Query) (question : Question) (moment : ℕ) (query : Query) (stands : Standing) (here : Option Query) (after : State Query) : Type 0 where
-  pub entry : Entry
-  pub decided : IsDecided before question.key question.client moment query entry after
-  pub stands_so : stands ≡ standing_by question entry
-  pub here_so : here ≡ query_by entry
+  pub decision : Decision Query
+  pub admits : Admits before question.key question.client moment query decision after
+  pub stands_so : stands ≡ standing_by question decision
+  pub here_so : here ≡ query_by decision
 
 -- A question too long to be held is dropped, and admission does not hear of it. On any other it decides.
 abbrev pub StandsBy : State Query → Question → ℕ → Query → Standing → Option Query → State Query → Type 0
@@ -121,12 +107,6 @@ told Free asks moment d = d
 told (Asks question) asks moment d = d
 told standing.Held asks moment d = d
 told standing.Dropped asks moment d = d
-
--- What is let in, or dropped, is the query that came.
-abbrev pub IsAdmitted : Query → Entry → Type 0
-IsAdmitted query (In it) = it ≡ query
-IsAdmitted query Held = Unit {0}
-IsAdmitted query (Dropped it) = it ≡ query
 
 -- Why a reply is a SERVFAIL, where it is one.
 abbrev pub cause_in : {A : Type 0} → Action A → Option Cause

@@ -11,9 +11,9 @@ ghost use Rattle.server.specs.declared.passage.Standing.TheVariants.{Dropped};
 ghost use Rattle.server.specs.Passages.{Enters, IsAnswered, IsClients, IsOfQuery, TakesStep, asks_server};
 
 use crate::query::{Asker, Query};
-use crate::shared_admission::{Entry, Question, SharedAdmission, ask_for};
+use crate::shared_admission::{Question, SharedAdmission};
 use crate::tally::Arrival;
-use admission::Admission;
+use admission::{Admission, Decision};
 use book::{Answering, Book, Machine, Ticket};
 use events::{Actions, Event};
 use memory::Starved;
@@ -63,10 +63,10 @@ fn stand(
     if is_too_long(admission, question.key, &query) {
         return (Standing::Dropped, Some(query));
     }
-    match ask_for(admission, question, moment, query) {
-        Entry::In(query) => (Standing::Admitted(question), Some(query)),
-        Entry::Held => (Standing::Held, None),
-        Entry::Dropped(query) => (Standing::Dropped, Some(query)),
+    match admission.admit(question.key, question.client, moment, query) {
+        Decision::In(query) => (Standing::Admitted(question), Some(query)),
+        Decision::Waits => (Standing::Held, None),
+        Decision::Refused(query) => (Standing::Dropped, Some(query)),
     }
 }
 

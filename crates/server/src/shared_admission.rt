@@ -5,11 +5,11 @@ ghost use Rattle.events.specs.Views.{action_view};
 ghost use Rattle.typed.specs.Views.{parsed_view};
 ghost use Rattle.server.specs.Askers.{admission_client};
 ghost use Rattle.server.specs.Keys.{key_of, query_key, IsKeyIn};
-ghost use Rattle.server.specs.Entries.{IsEntry, IsAdmitted, IsDecided, IsFailureFor, IsStanding, failure_copy};
+ghost use Rattle.server.specs.Entries.{IsFailureFor, IsStanding, failure_copy};
 
 use crate::passage::Standing;
 use crate::query::{Asker, Query, asker_of};
-use admission::{Admission, Decision, Held, Limits, PLACES};
+use admission::{Admission, Held, Limits, PLACES};
 use dispatch::{bytes_of, failure_for, is_failure, question_end};
 use dname::LONGEST_NAME;
 use events::{Action, Bytes};
@@ -34,42 +34,6 @@ const IN: [u8; 2] = [0, 1];
 pub(crate) struct Question {
     pub key: u64,
     pub client: u64,
-}
-
-/// What becomes of a query that asks for admission.
-#[derive(Drop)]
-pub(crate) enum Entry {
-    /// Its step is to be taken now.
-    In(Query),
-    /// It waits.
-    Held,
-    /// It is dropped.
-    Dropped(Query),
-}
-
-// What becomes of a query by what was decided of it.
-fn entry_of(decision: Decision<Query>) -> Entry
-    ensures { IsEntry decision result }
-{
-    match decision {
-        Decision::In(query) => Entry::In(query),
-        Decision::Waits => Entry::Held,
-        Decision::Refused(query) => Entry::Dropped(query),
-    }
-}
-
-/// Asks for admission for a question that came at this moment in that query.
-pub(crate) fn ask_for(
-    admission: &mut Admission<Query>,
-    question: Question,
-    moment: u64,
-    query: Query,
-) -> Entry
-    ensures decided { IsDecided admission.old question.key question.client moment query result admission.new }
-    ensures kept { IsAdmitted query result }
-{
-    let Question { key, client } = question;
-    entry_of(admission.admit(key, client, moment, query))
 }
 
 // The failure of a query, with these bytes, as the reply to an equal one.
