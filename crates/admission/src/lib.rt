@@ -16,7 +16,7 @@
 //! the last `reserve` of them from addresses that have no other query here. At most `waiting` wait, and only while
 //! `equal` like them are inside (all by `kept_law`). Those that wait for a key come in in the order in which they came
 //! (`fair_law`). Each that waits comes in once, is handed out as failed once, or is dropped once (`once_law`). `new`
-//! takes all memory that is ever wanted. What each call does is said whole by its contract (`specs/Moves.antt`).
+//! takes all memory that is ever wanted. What each call does its contract says (`specs/Moves.antt`).
 //! Not here: that a reply comes, or that the caller says so. So a query that is open for 12,000 ms leaves with
 //! `expire`; and one that waited for 5,000 ms is dropped with `drop_late`.
 //!
