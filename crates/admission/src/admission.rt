@@ -4,7 +4,7 @@ ghost use Rattle.std.specs.Option.{is_some};
 ghost use Rattle.std.specs.List.{count_by, remove};
 ghost use Rattle.std.specs.VecDeque.{deque_capacity};
 ghost use Rattle.admission.specs.declared.queries.Admitted.{Admitted};
-ghost use Rattle.admission.specs.States.{state, address_in, held_with, held_from, inside, of_key, of_address, is_shut, IsKept};
+ghost use Rattle.admission.specs.States.{state, address_in, held_with, held_from, inside, of_key, of_address, has_share, is_shut, IsKept};
 ghost use Rattle.admission.specs.Moves.{Admits, AdmitsNext, admitted, is_entering, is_open, is_late, opened, left, called, first_of, without_first, taken, dropped};
 
 use crate::limits::Limits;
@@ -60,8 +60,8 @@ impl<T: Drop, A: Heap> Admission<T, A> {
 
 impl<T: Drop, A: Allocator> Admission<T, A> {
     /// A query comes, with what is needed to put it in. It is admitted where fewer equal ones are inside than may be,
-    /// and waits where not. It is refused, and nothing changes, where its address or the places are full or too many
-    /// wait.
+    /// and waits where not. It is refused, and nothing changes, where its address or the places are full, its address
+    /// has as many as places are free, or too many wait.
     pub fn admit(&mut self, key: u64, client: u64, moment: u64, payload: T) -> Decision<T>
         ensures { Admits self.old key client moment payload result self.new }
     {
@@ -191,6 +191,15 @@ impl<T: Drop, A: Allocator> Admission<T, A> {
             || self.limits.places <= inside
             || (0 < from_address
                 && self.limits.places.saturating_sub(self.limits.reserve) <= inside)
+            || self.has_share(from_address)
+    }
+
+    // Whether an address of so many queries has its share: as many as places are free.
+    fn has_share(&self, from_address: usize) -> bool
+        ensures { result ≡ has_share from_address self.now }
+    {
+        self.limits.each < self.limits.places
+            && self.limits.places.saturating_sub(self.inside()) <= from_address
     }
 
     /// What holds of an admission at all times: of equal queries, of one address' and in all as many are here as may

@@ -1,5 +1,5 @@
 -- What becomes of queries that ask for admission.
-use Rattle.std.specs.Prelude.{◌≡◌, ℕ, Bool, true, false, cond, ◌⊎◌, ◌&&◌, nat_le, nat_lt, Option, Some, None, List, length}
+use Rattle.std.specs.Prelude.{◌≡◌, ℕ, ◌-◌, ◌⊎◌, Bool, true, false, cond, ◌&&◌, nat_le, nat_lt, Option, Some, None, List, ◌++◌, length, take, drop}
 use Rattle.std.specs.Bool.{MatchBool}
 use Rattle.std.specs.declared.hash.DefaultHasher.{DefaultHasher}
 use Rattle.causes.specs.declared.cause.Cause.{Cause}
@@ -7,6 +7,7 @@ use Rattle.runs.specs.States.{Action as ActionSpec, Reply}
 use Rattle.events.specs.declared.action.Action.{Action}
 use Rattle.events.specs.declared.action.Action.TheVariants as said
 use Rattle.admission.specs.States.{State, of_key}
+use Rattle.dispatch.specs.Questions.{HasQuestion}
 use Rattle.admission.specs.Moves.{Admits, is_entering, opened, left}
 use Rattle.admission.specs.declared.queries.Decision.{Decision}
 use Rattle.admission.specs.declared.queries.Decision.TheVariants as decision
@@ -21,20 +22,6 @@ use Rattle.server.specs.declared.passage.Standing.TheVariants as standing
 use Rattle.server.specs.declared.shared_admission.Question.{Question}
 use Rattle.server.specs.declared.query.Asker.{Asker}
 use Rattle.server.specs.declared.query.Query.{Query}
-use Rattle.server.specs.declared.shared_admission.Entry.{Entry}
-use Rattle.server.specs.declared.shared_admission.Entry.TheVariants.{In, Held, Dropped}
-
--- What is admitted is stepped, what waits is held, and what is refused is dropped.
-abbrev pub IsEntry : Decision Query → Entry → Type 0
-IsEntry (decision.In query) entry = entry ≡ In query
-IsEntry decision.Waits entry = entry ≡ Held
-IsEntry (decision.Refused query) entry = entry ≡ Dropped query
-
--- Admission decided so on the query, and this becomes of it.
-pub record IsDecided (before : State Query) (key client moment : ℕ) (query : Query) (entry : Entry) (after : State Query) : Type 0 where
-  pub decision : Decision Query
-  pub admits : Admits before key client moment query decision after
-  pub becomes : IsEntry decision entry
 
 -- A query asks for admission, under the key of what it asks and the number of its client. What is no query needs none.
 abbrev pub IsStanding : DefaultHasher → Parsed → Standing → Type 0
@@ -64,24 +51,24 @@ is_passed standing.Dropped = false
 abbrev pub is_too_long : State Query → ℕ → List ℕ → Bool
 is_too_long d key bytes = nat_lt 512 (length bytes) && nat_le d.limits.equal (of_key key d)
 
--- How a question stands by the entry that it had.
-abbrev pub standing_by : Question → Entry → Standing
-standing_by question (In query) = Admitted question
-standing_by question Held = standing.Held
-standing_by question (Dropped query) = standing.Dropped
+-- How a question stands by what was decided of its query.
+abbrev pub standing_by : Question → Decision Query → Standing
+standing_by question (decision.In query) = Admitted question
+standing_by question decision.Waits = standing.Held
+standing_by question (decision.Refused query) = standing.Dropped
 
--- The query that is still here by this entry.
-abbrev pub query_by : Entry → Option Query
-query_by (In query) = Some query
-query_by Held = None
-query_by (Dropped query) = Some query
+-- The query that is still here then.
+abbrev pub query_by : Decision Query → Option Query
+query_by (decision.In query) = Some query
+query_by decision.Waits = None
+query_by (decision.Refused query) = Some query
 
 -- Admission decided so on a question that came at this moment in that query.
 pub record IsAsked (before : State Query) (question : Question) (moment : ℕ) (query : Query) (stands : Standing) (here : Option Query) (after : State Query) : Type 0 where
-  pub entry : Entry
-  pub decided : IsDecided before question.key question.client moment query entry after
-  pub stands_so : stands ≡ standing_by question entry
-  pub here_so : here ≡ query_by entry
+  pub decision : Decision Query
+  pub admits : Admits before question.key question.client moment query decision after
+  pub stands_so : stands ≡ standing_by question decision
+  pub here_so : here ≡ query_by decision
 
 -- A question too long to be held is dropped, and admission does not hear of it. On any other it decides.
 abbrev pub StandsBy : State Query → Question → ℕ → Query → Standing → Option Query → State Query → Type 0
@@ -98,14 +85,18 @@ is_here (Admitted question) = true
 is_here standing.Held = false
 is_here standing.Dropped = true
 
--- How a question stands by what admission decided. One that is dropped may be free where the machine holds its answer:
--- its step asks no server, so that it needs no place.
+-- How a question stands by what admission decided. One that is dropped is free in place of that where the machine holds
+-- its answer: its step asks no server, so that it needs no place.
 abbrev pub IsLetBy : Type 0 → Standing → Standing → Type 0
 IsLetBy holds Free stands = stands ≡ Free
 IsLetBy holds (Asks question) stands = stands ≡ Asks question
 IsLetBy holds (Admitted question) stands = stands ≡ Admitted question
 IsLetBy holds standing.Held stands = stands ≡ standing.Held
-IsLetBy holds standing.Dropped stands = (stands ≡ standing.Dropped) ⊎ (holds × (stands ≡ Free))
+IsLetBy holds standing.Dropped stands = (holds × (stands ≡ Free)) ⊎ ((holds → ⊥) × (stands ≡ standing.Dropped))
+
+-- Admission drops it, and so it stands from now on.
+abbrev pub StaysDropped : Standing → Standing → Type 0
+StaysDropped decided stands = (decided ≡ standing.Dropped) × (stands ≡ standing.Dropped)
 
 -- What admission is told of a message whose step was taken, and asked a server or not: a question that asked one is
 -- open since that moment, and any other leaves.
@@ -117,12 +108,6 @@ told (Asks question) asks moment d = d
 told standing.Held asks moment d = d
 told standing.Dropped asks moment d = d
 
--- What is let in, or dropped, is the query that came.
-abbrev pub IsAdmitted : Query → Entry → Type 0
-IsAdmitted query (In it) = it ≡ query
-IsAdmitted query Held = Unit {0}
-IsAdmitted query (Dropped it) = it ≡ query
-
 -- Why a reply is a SERVFAIL, where it is one.
 abbrev pub cause_in : {A : Type 0} → Action A → Option Cause
 cause_in (said.Reply client way bytes cause) = cause
@@ -132,3 +117,10 @@ cause_in (said.TcpAsk number to bytes) = None
 -- The failure goes to who asked, by the way by which he asked, with the cause of the one that failed.
 abbrev pub failure_copy : {A : Type 0} → Action A → Asker → List ℕ → ActionSpec
 failure_copy failed asker bytes = Reply asker.client asker.way bytes (cause_in failed)
+
+-- The bytes of a failure as the reply to an equal query: under its ID, and with its question as it is spelt there.
+-- Where the query's name does not stand in full, all behind the ID is the failure's.
+abbrev pub IsFailureFor : List ℕ → List ℕ → List ℕ → Type 0
+IsFailureFor failure query bytes =
+    ((end : ℕ) × HasQuestion query end × (bytes ≡ take 2 query ++ (take 10 (drop 2 failure) ++ take (end - 12) (drop 12 query))))
+    ⊎ (((end : ℕ) → HasQuestion query end → ⊥) × (bytes ≡ take 2 query ++ drop 2 failure))

@@ -1,15 +1,15 @@
 //! Admission of clients' questions to the resolver: of equal ones few are under way at a time, the others wait.
-ghost use Rattle.std.specs.Prelude.{◌≡◌, ◌≤◌, IfSome, length, map};
+ghost use Rattle.std.specs.Prelude.{◌≡◌, ◌≤◌, ◌++◌, IfSome, length, map, take, drop};
 ghost use Rattle.std.specs.Char.{to_ascii_lowercase};
 ghost use Rattle.events.specs.Views.{action_view};
 ghost use Rattle.typed.specs.Views.{parsed_view};
 ghost use Rattle.server.specs.Askers.{admission_client};
 ghost use Rattle.server.specs.Keys.{key_of, query_key, IsKeyIn};
-ghost use Rattle.server.specs.Entries.{IsEntry, IsAdmitted, IsDecided, IsStanding, failure_copy};
+ghost use Rattle.server.specs.Entries.{IsFailureFor, IsStanding, failure_copy};
 
 use crate::passage::Standing;
 use crate::query::{Asker, Query, asker_of};
-use admission::{Admission, Decision, Held, Limits, PLACES};
+use admission::{Admission, Held, Limits, PLACES};
 use dispatch::{bytes_of, failure_for, is_failure, question_end};
 use dname::LONGEST_NAME;
 use events::{Action, Bytes};
@@ -36,42 +36,6 @@ pub(crate) struct Question {
     pub client: u64,
 }
 
-/// What becomes of a query that asks for admission.
-#[derive(Drop)]
-pub(crate) enum Entry {
-    /// Its step is to be taken now.
-    In(Query),
-    /// It waits.
-    Held,
-    /// It is dropped.
-    Dropped(Query),
-}
-
-// What becomes of a query by what was decided of it.
-fn entry_of(decision: Decision<Query>) -> Entry
-    ensures { IsEntry decision result }
-{
-    match decision {
-        Decision::In(query) => Entry::In(query),
-        Decision::Waits => Entry::Held,
-        Decision::Refused(query) => Entry::Dropped(query),
-    }
-}
-
-/// Asks for admission for a question that came at this moment in that query.
-pub(crate) fn ask_for(
-    admission: &mut Admission<Query>,
-    question: Question,
-    moment: u64,
-    query: Query,
-) -> Entry
-    ensures decided { IsDecided admission.old question.key question.client moment query result admission.new }
-    ensures kept { IsAdmitted query result }
-{
-    let Question { key, client } = question;
-    entry_of(admission.admit(key, client, moment, query))
-}
-
 // The failure of a query, with these bytes, as the reply to an equal one.
 fn copied_failure(failed: &Action, asker: Asker, bytes: Bytes) -> Action
     ensures { action_view result ≡ failure_copy failed.now asker bytes }
@@ -86,6 +50,19 @@ fn copied_failure(failed: &Action, asker: Asker, bytes: Bytes) -> Action
         bytes,
         cause,
     }
+}
+
+// A failure under the ID of a query. None where that has no ID, or no memory is left.
+fn under_id(alloc: Global, failure: &[u8], query: &[u8]) -> Option<Vec<u8>>
+    requires { 12 ≤ length failure.now }
+    ensures bytes { IfSome result (λ v. v.items ≡ take 2 query.now ++ drop 2 failure.now) }
+    ensures long { IfSome result (λ v. length v.items ≡ length failure.now) }
+{
+    let id = query.get(..2)?;
+    let mut bytes = Vec::with_capacity(alloc, failure.len()).ok()?;
+    bytes.extend_from_slice(id).ok()?;
+    bytes.extend_from_slice(&failure[2..]).ok()?;
+    Some(bytes)
 }
 
 /// The admission that the loops share, and the hash of what is asked.
@@ -248,14 +225,13 @@ impl SharedAdmission {
     fn failure_of(&self, failure: &[u8], query: &Bytes) -> Option<Bytes>
         requires header { 12 ≤ length failure.now }
         requires short { length failure.now ≤ 65535 }
+        ensures { IfSome result (IsFailureFor failure.now query.now) }
     {
         let query = query.as_slice();
         if let Some(end) = question_end(query) {
             return failure_for(self.alloc, failure, query, end).ok();
         }
-        let mut bytes = Vec::from_slice(self.alloc, failure).ok()?;
-        bytes[..2].copy_from_slice(query.get(..2)?);
-        Some(Bytes::new(bytes))
+        Some(Bytes::new(under_id(self.alloc, failure, query)?))
     }
 
     /// A question that is called in.

@@ -15,6 +15,23 @@ const SMALL: Limits = Limits {
     waiting: 2,
 };
 
+// Without a reserve; one address may have two thirds of the places, or all of them.
+const WIDE: Limits = Limits {
+    equal: 2,
+    each: 4,
+    places: 6,
+    reserve: 0,
+    waiting: 2,
+};
+
+const OF_A_FRONT: Limits = Limits {
+    equal: 2,
+    each: 6,
+    places: 6,
+    reserve: 0,
+    waiting: 2,
+};
+
 // Clients: of addresses 1 to 7, at port 9.
 const A: u64 = 65_545;
 
@@ -90,6 +107,30 @@ const RESERVE: [Row; 8] = [
     (Admit(8, G, 0), Refused(7)),
 ];
 
+// An address has as many queries as places are free, and no more.
+const SHARE: [Row; 9] = [
+    (Admit(1, A, 0), In(0)),
+    (Admit(2, A, 0), In(1)),
+    (Admit(3, A, 0), In(2)),
+    (Admit(4, A, 0), Refused(3)),
+    (Admit(5, B, 0), In(4)),
+    (Admit(6, B, 0), In(5)),
+    (Admit(7, B, 0), Refused(6)),
+    (Admit(8, C, 0), In(7)),
+    (Admit(9, D, 0), Refused(8)),
+];
+
+// Where one address may have all places it takes them.
+const FRONT: [Row; 7] = [
+    (Admit(1, A, 0), In(0)),
+    (Admit(2, A, 0), In(1)),
+    (Admit(3, A, 0), In(2)),
+    (Admit(4, A, 0), In(3)),
+    (Admit(5, A, 0), In(4)),
+    (Admit(6, A, 0), In(5)),
+    (Admit(7, A, 0), Refused(6)),
+];
+
 // After 12,000 ms an open query leaves, and one that waited for 5,000 ms is dropped. One that enters stays.
 const TIMES: [Row; 13] = [
     (Admit(5, A, 0), In(0)),
@@ -108,8 +149,12 @@ const TIMES: [Row; 13] = [
 ];
 
 // The first row that comes out otherwise, and what came.
-fn first_wrong<H: Heap>(alloc: H, rows: &[Row]) -> Result<Option<(usize, Answer)>, Starved> {
-    let mut admission = Admission::new(alloc, SMALL)?;
+fn first_wrong<H: Heap>(
+    alloc: H,
+    limits: Limits,
+    rows: &[Row],
+) -> Result<Option<(usize, Answer)>, Starved> {
+    let mut admission = Admission::new(alloc, limits)?;
     for (place, (step, answer)) in rows.iter().enumerate() {
         let came = made(&mut admission, *step, place as u64);
         if came != *answer {
@@ -122,8 +167,10 @@ fn first_wrong<H: Heap>(alloc: H, rows: &[Row]) -> Result<Option<(usize, Answer)
 #[test]
 fn each_move(rt: HostRuntime) -> Result<(), test::Fail> {
     for rows in [&IN_ORDER[..], &FAILED, &OF_ONE_ADDRESS, &RESERVE, &TIMES] {
-        assert_eq!(rt; first_wrong(rt.alloc(), rows)?, None);
+        assert_eq!(rt; first_wrong(rt.alloc(), SMALL, rows)?, None);
     }
+    assert_eq!(rt; first_wrong(rt.alloc(), WIDE, &SHARE)?, None);
+    assert_eq!(rt; first_wrong(rt.alloc(), OF_A_FRONT, &FRONT)?, None);
     Ok(())
 }
 

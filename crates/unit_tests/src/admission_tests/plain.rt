@@ -101,7 +101,9 @@ impl Plain {
         let shut = from_address >= self.limits.each
             || inside >= self.limits.places
             || (from_address > 0
-                && inside.saturating_add(self.limits.reserve) >= self.limits.places);
+                && inside.saturating_add(self.limits.reserve) >= self.limits.places)
+            || (self.limits.each < self.limits.places
+                && from_address.saturating_add(inside) >= self.limits.places);
         let waiting = self.queries.len().saturating_sub(inside);
         let enters = self.of_key(key) < self.limits.equal;
         if shut || (!enters && waiting >= self.limits.waiting) {
