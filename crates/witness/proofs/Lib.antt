@@ -1,3 +1,4 @@
+pub mod AliasTalk
 pub mod Aliases
 pub mod Cached
 pub mod Course
