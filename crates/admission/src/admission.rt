@@ -4,7 +4,7 @@ ghost use Rattle.std.specs.Option.{is_some};
 ghost use Rattle.std.specs.List.{count_by, remove};
 ghost use Rattle.std.specs.VecDeque.{deque_capacity};
 ghost use Rattle.admission.specs.declared.queries.Admitted.{Admitted};
-ghost use Rattle.admission.specs.States.{state, address_in, held_with, held_from, inside, of_key, of_address, has_share, is_shut, IsKept};
+ghost use Rattle.admission.specs.States.{state, address_in, held_with, held_from, inside, of_key, of_address, has_share, has_enough, is_shut, IsKept};
 ghost use Rattle.admission.specs.Moves.{Admits, AdmitsNext, admitted, is_entering, is_open, is_late, opened, left, called, first_of, without_first, taken, dropped};
 
 use crate::limits::Limits;
@@ -185,12 +185,19 @@ impl<T: Drop, A: Allocator> Admission<T, A> {
     fn is_shut(&self, client: u64) -> bool
         ensures { result ≡ is_shut (address_in client) self.now }
     {
-        let inside = self.inside();
         let from_address = self.of_address(address_in(client));
         self.limits.each <= from_address
-            || self.limits.places <= inside
-            || (0 < from_address
-                && self.limits.places.saturating_sub(self.limits.reserve) <= inside)
+            || self.limits.places <= self.inside()
+            || self.has_enough(from_address)
+    }
+
+    // Whether an address of so many queries has enough while others may come: it has some and only the reserve is left,
+    // or it has its share.
+    fn has_enough(&self, from_address: usize) -> bool
+        ensures { result ≡ has_enough from_address self.now }
+    {
+        (0 < from_address
+            && self.limits.places.saturating_sub(self.limits.reserve) <= self.inside())
             || self.has_share(from_address)
     }
 
