@@ -1,29 +1,24 @@
 -- What is at hand is answered, and nobody is asked for it.
-use Rattle.std.proofs.Common.{◌≡◌, ◌⊎◌, inl, inr, ℕ, Bool, true, false, Option, Some, None, List, [], ◌∷◌, refl, sym, ap, subst, ◌∙◌, arith}
+use Rattle.std.proofs.Common.{◌≡◌, ◌⊎◌, inl, inr, ℕ, Bool, true, false, Option, Some, List, [], ◌∷◌, refl, sym, ap, subst, ◌∙◌}
 use Rattle.std.specs.Prelude.{◌↔◌, min, max, IsTrue}
-use Rattle.dname.specs.Labels.{Name}
+use Rattle.limits.specs.Limits.{max_aliases}
 use Rattle.rdata.specs.Types.{type_number}
 use Rattle.causes.specs.declared.cause.Cause.{Cause}
 use Rattle.wire.specs.declared.via.Via.{Via}
-use Rattle.zone.specs.Links.{Link, Found, Alias, NoData, NxDomain}
-use Rattle.zone.specs.Look.{Local, Linked, Cut, NotHere}
 use Rattle.front.specs.Queries.{IsRequest}
 use Rattle.front.specs.Replies.{reply_of}
 use Rattle.front.specs.declared.queries.Outcome.{Outcome}
 use Rattle.front.specs.declared.queries.Query.{Query}
 use Rattle.front.specs.declared.queries.Request.TheVariants as request
-use Rattle.cache.specs.Keys.{Key}
-use Rattle.cache.specs.Cached.{Hit, lent, hit_of, is_end, has_end}
-use Rattle.resolution.specs.Jobs.{Home, Stores, Taken, local_link, kept_link, IsEnding}
-use Rattle.resolution.specs.Rules.{Says, IsRemote, asked_by, asked_of}
-use Rattle.lookup.specs.Held.{ends_by, IsAtHand}
-use Rattle.runs.specs.States.{Event, Action, ClientQuery, client_query, Plain, Turn, Site, State, latest}
+use Rattle.resolution.specs.Jobs.{Home}
+use Rattle.resolution.specs.Held.{IsHeldChain}
+use Rattle.lookup.specs.Held.{IsAtHand}
+use Rattle.runs.specs.States.{Event, Action, client_query, Plain, Turn, Site, State, latest}
 use Rattle.runs.specs.States as told
 use Rattle.runs.specs.Messages.{IsReply}
 use Rattle.runs.specs.Runs.{Run}
 use Rattle.runs.proofs.Clocks.{clock_of_run}
-use Rattle.laws.specs.Held.{IsHeldChain}
-use Rattle.typed.specs.Events.{Parsed, Client, Datagram, TcpReply, TcpFailed, Tick}
+use Rattle.typed.specs.Events.{Client, Datagram, TcpReply, TcpFailed, Tick}
 use Rattle.engine.specs.Promises.{Steps}
 use Rattle.engine.specs.AtHand.{HasEnd, AtHandAsksNobody}
 
@@ -47,31 +42,6 @@ with_rd rd b e h = (
   ],
 )
 
--- ---- a link at hand is a chain without aliases
-
-ending : (l : Link) → is_end l ≡ true → IsEnding l
-ending (Found rs) e = tt
-ending (Alias r) e = apart e
-ending (NoData soa) e = tt
-ending (NxDomain soa) e = tt
-
-module _ (home : Home) (now : ℕ) (n : Name) (t : ℕ) (es : List (Key × Hit)) where
-  abbrev AnEnd : Type 0
-  AnEnd = (l : Taken) × IsHeldChain home now t es n [] l
-
-  cached : IsRemote home n t → (o : Option Hit) → hit_of (lent (asked_of home n t) now es) ≡ o → has_end o ≡ true → AnEnd
-  cached remote None is e = apart e
-  cached remote (Some h) is e = (kept_link n h, (inr (remote, (h, is, refl)), ending h.link e))
-
-  by_what : (what : Local) → Says home n t what → ends_by what now n t es ≡ true → AnEnd
-  by_what (Linked k) says e = (local_link n k, (inl (k, says, refl), ending k e))
-  by_what (Cut at ns glue) says e =
-      cached (inl (at, ns, glue, says)) (hit_of (lent (asked_by (Cut at ns glue) n t) now es)) (ap (λ (what : Local). hit_of (lent (asked_by what n t) now es)) says.0) e
-  by_what NotHere says e = cached (inr says) (hit_of (lent (asked_by NotHere n t) now es)) (ap (λ (what : Local). hit_of (lent (asked_by what n t) now es)) says.0) e
-
-held_chain : (home : Home) (now : ℕ) (n : Name) (t : ℕ) (stores : Stores) → IsAtHand home now n t stores → (l : Taken) × IsHeldChain home now t stores.cache n [] l
-held_chain home now n t stores h = by_what home now n t stores.cache h.what h.says h.ends
-
 -- ---- the step on it
 
 module _ (site : Site) (past : List Turn) (s : State) (now client : ℕ) (way : Via) (bytes : List ℕ) (q : Query Plain) (out : List Action) (new : State) where
@@ -90,13 +60,13 @@ module _ (site : Site) (past : List Turn) (s : State) (now client : ℕ) (way : 
           let (o, action, reply, is) = said in
           alone o action reply is
       by true wants =
-          let here : IsAtHand (s.site).home (max s.clock (min now latest)) q.name (type_number q.kind) s.stores = elim has [
+          let here : IsAtHand (s.site).home (max s.clock (min now latest)) (type_number q.kind) (s.stores).cache q.name max_aliases = elim has [
             | inl lacks ↦ apart (sym lacks ∙ wants)
             | inr there ↦ there
           ] in
-          let (l, chain) = held_chain (s.site).home (max s.clock (min now latest)) q.name (type_number q.kind) s.stores here in
-          let ours = subst (λ (h : Home). IsHeldChain h (max s.clock (min now latest)) (type_number q.kind) (s.stores).cache q.name [] l) (ap (λ (x : Site). x.home) (clock_of_run site past s legal).1) chain in
-          let (served, said) = (steps.promises site past legal).held now client way bytes out q [] l refl refl asks wants (omega arith) ours in
+          let ours = subst (λ (h : Home). IsHeldChain h (max s.clock (min now latest)) (type_number q.kind) (s.stores).cache q.name here.aliases here.last)
+          (ap (λ (x : Site). x.home) (clock_of_run site past s legal).1) here.held in
+          let (served, said) = (steps.promises site past legal).held now client way bytes out q here.aliases here.last refl refl asks wants here.few ours in
           let (action, reply, is) = said in
           alone _ action reply is
 

@@ -1,5 +1,6 @@
 -- Queries whose answer is at hand: each is answered in the step in which it comes, and nobody else hears of it.
 use Rattle.std.specs.Prelude.{◌≡◌, ℕ, min, max, ◌⊎◌, false, Option, Some, List, [], ◌∷◌}
+use Rattle.limits.specs.Limits.{max_aliases}
 use Rattle.rdata.specs.Types.{type_number}
 use Rattle.causes.specs.declared.cause.Cause.{Cause}
 use Rattle.front.specs.declared.queries.Query.{Query}
@@ -11,9 +12,9 @@ use Rattle.typed.specs.Events.{Parsed, Client, Datagram, TcpReply, TcpFailed, Ti
 use Rattle.engine.specs.Promises.{Steps}
 
 -- A query that comes at this moment. One without RD is answered by the local zones alone (RFC 1034, section 4.3.1), and
--- any other where a link that is no alias is at hand.
+-- any other where at most eight aliases and the end behind them stand in the local zones and in the cache.
 abbrev pub HasEnd : {A : Type 0} → State → ℕ → Query A → Type 0
-HasEnd s moment q = ((q.start).rd ≡ false) ⊎ IsAtHand (s.site).home (max s.clock moment) q.name (type_number q.kind) s.stores
+HasEnd s moment q = ((q.start).rd ≡ false) ⊎ IsAtHand (s.site).home (max s.clock moment) (type_number q.kind) (s.stores).cache q.name max_aliases
 
 -- An event that is a client's query, whose answer is at hand.
 abbrev pub HasAnswer : State → Parsed → Type 0

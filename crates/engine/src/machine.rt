@@ -158,8 +158,8 @@ impl<A: Heap> Core<A> {
         said
     }
 
-    /// Whether the event is a client's query whose answer is at hand: one without RD, or one for whose name a link that
-    /// is no alias stands in the local zones or lives in the cache. Its step asks no server then.
+    /// Whether the event is a client's query whose answer is at hand: one without RD, or one for whose name at most eight
+    /// aliases and the end behind them stand in the local zones or live in the cache. Its step asks no server then.
     pub fn holds(&self, event: &TypedEvent<A>) -> Result<bool, Starved>
         ensures { IfOk result (λ b. IsTrue b ↔ HasAnswer self.now event.now) }
     {

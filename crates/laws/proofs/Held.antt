@@ -8,12 +8,13 @@ use Rattle.front.specs.declared.queries.Request.TheVariants as request
 use Rattle.front.specs.declared.queries.Query.{Query}
 use Rattle.front.proofs.Single.{asked_once}
 use Rattle.resolution.specs.Jobs.{Home, Stores, Taken, Job, Next, Done, Seek, point}
+use Rattle.resolution.specs.Held.{IsHeldChain}
 use Rattle.runs.specs.States.{Event, Client, Action, Served, Own, Turn, Plain, client_query, recursive, job_for, Site, State, moved}
 use Rattle.runs.specs.Messages.{outcome_of, IsReply}
 use Rattle.runs.specs.Steps.{Comes, IsAsk, IsOpened, at_once, crowded, admitted, Resolves, IsHandled, Step}
 use Rattle.runs.specs.Runs.{Run}
 use Rattle.runs.proofs.Clocks.{clock_of_run}
-use Rattle.laws.specs.Held.{IsHeldChain, HeldIsReplied}
+use Rattle.laws.specs.Held.{HeldIsReplied}
 use Rattle.laws.proofs.Walks.{IsAlong, walks_along}
 
 module _ (s : State) (client : ℕ) (way : Via) (q : Query Plain) (chain : List Taken) (last : Taken) (few : length chain ≤ 8)

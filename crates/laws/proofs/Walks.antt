@@ -13,9 +13,9 @@ use Rattle.cache.specs.Keys.{Key, same_key}
 use Rattle.cache.specs.Cached.{Hit, lent, hit_of}
 use Rattle.resolution.specs.Jobs.{Home, Stores, Taken, local_link, kept_link, is_dead, AreFresh, IsEnding, Job, Next, Done, Task, Seek, Take, Go, Again, Point}
 use Rattle.resolution.specs.Rules.{Says, IsRemote, asked_of, Hits, Finds, Begins, Misses, Rule, takes, asks, follows, restarts, skips, hears, descends, gives_up, Rules, Leaves, sends, sends_again, refuses, spent, looked_out, nowhere, too_long, done}
+use Rattle.resolution.specs.Held.{Holds, IsHeldChain}
 use Rattle.resolution.proofs.Falls.{found_fresh}
 use Rattle.laws.proofs.FollowedLists.{fresh_both, none_dead}
-use Rattle.laws.specs.Held.{Holds, IsHeldChain}
 use Rattle.laws.proofs.KeptEntries.{moved_looks, same_lent}
 
 -- ---- what is held is one

@@ -1,6 +1,6 @@
 -- What is found: from what is kept, and from the zones at hand.
 use Rattle.std.proofs.Common.{◌≡◌, ◌≢◌, ℕ, Bool, true, false, not, inl, inr, Option, Some, None, Result, Ok, Err, List, refl, sym, ap, subst, ◌∙◌}
-use Rattle.std.specs.Prelude.{◌↔◌, IsTrue, IfOk}
+use Rattle.std.specs.Prelude.{IsTrue, IfOk}
 use Rattle.std.proofs.lemmas.Bool.{both_ways, not-true}
 use Rattle.dname.specs.Labels.{Name, root, same_name, IsAtOrUnder, IsName}
 use Rattle.dname.specs.Laws.{same_name-exact, same_name-equal}
@@ -14,7 +14,6 @@ use Rattle.resolution.specs.Jobs.{Home, Stores, Taken, kept_link, IsCutOf}
 use Rattle.resolution.proofs.Looked.{miss_stays}
 use Rattle.resolution.specs.Rules.{Says, IsRemote, asked_by, asked_of, Begins}
 use Rattle.lookup.specs.Views.{after_look}
-use Rattle.lookup.specs.Held.{ends_by, IsAtHand}
 use Rattle.lookup.specs.Found.{IsFound, IsHit, IsKept, IsDeeper, IsBegun, IsStart, IsBeyond}
 use Rattle.lookup.specs.declared.lookup.Found.{Found}
 use Rattle.lookup.specs.declared.lookup.Found.TheVariants as found
@@ -129,16 +128,3 @@ start_beyond_is home now n t old mid top given (Ok f) new named nowhere is value
       };
       begun = start.begun;
     }
-
--- ---- what is at hand
-
-pub at_hand_is : (home : Home) (zones : List Zone) (now : ℕ) (n : Name) (t : ℕ) (stores : Stores) (said : local.Local) (b : Bool) → zones ≡ home.zones → said ≡ looked zones n t → IsLooked zones n t said
-    → b ≡ ends_by said now n t stores.cache → IsTrue b ↔ IsAtHand home now n t stores
-at_hand_is home zones now n t stores said b same value relation is = (
-  λ true_is. record {
-    what = said;
-    says = says_is home zones n t said said same value relation refl;
-    ends = sym is ∙ true_is;
-  },
-  λ h. is ∙ ap (λ (what : local.Local). ends_by what now n t stores.cache) (value ∙ ap (λ (zs : List Zone). looked zs n t) same ∙ (h.says).0) ∙ h.ends,
-)

@@ -3,3 +3,4 @@ pub mod Owners
 pub mod Uses
 pub mod Kept
 pub mod Times
+pub mod Following

@@ -4,12 +4,13 @@
 //! `Home` holds the local zones and the root's cut, made of the hints (SBELT). `Stores` holds the cache, the
 //! delegations, the penalties of servers, and which of them failed lately. `find` looks in the zones first and in the
 //! cache next; where neither has a link, it gives the cut at which servers are sought: the one that the zones name, or
-//! a deeper one that is cached. `holds` tells beforehand whether it would give a link that is no alias. `Taken` is a
-//! link with its source, and `into_sent` the link as it is sent.
+//! a deeper one that is cached. `holds` tells beforehand whether the answer is at hand: at most eight aliases and the
+//! end behind them, all of which `find` would give. `Taken` is a link with its source, and `into_sent` the link as it
+//! is sent.
 //!
-//! Promised: the link that is found, or that there is none and where the search starts (`IsFound`, `IsAtHand`). Where
-//! memory runs out, the look-up was made in the stores, or it was not (`LooksInPart`). Each call of the stores is one
-//! equation over `resolution`'s definitions.
+//! Promised: the link that is found, or that there is none and where the search starts (`IsFound`). Where memory runs
+//! out, the look-up was made in the stores, or it was not (`LooksInPart`). Whether the answer is at hand (`IsAtHand`).
+//! Each call of the stores is one equation over `resolution`'s definitions.
 //! Not here: asking servers (`iterate`).
 //!
 //! ```text
@@ -20,14 +21,16 @@
 //! ```
 #![tactic(auto)]
 
+mod held;
 mod home;
 mod lookup;
 mod made;
 mod stores;
 mod taken;
 
+pub use held::holds;
 pub use home::Home;
-pub use lookup::{Found, find, holds};
+pub use lookup::{Found, find};
 pub use made::found_addresses;
 pub use stores::{Capacities, Hashers, Stores};
 pub use taken::Taken;

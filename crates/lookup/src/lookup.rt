@@ -8,8 +8,6 @@ ghost use Rattle.resolution.specs.Jobs.{Home as HomeSpec};
 ghost use Rattle.resolution.specs.Rules.{Begins};
 ghost use Rattle.resolution.specs.Stops.{LooksInPart};
 ghost use Rattle.lookup.specs.Found.{IsFound, IsKept, IsDeeper, IsBegun, IsStart, IsBeyond};
-ghost use Rattle.lookup.specs.Held.{ends_by, IsAtHand};
-ghost use Rattle.authority.specs.Answers.{local_view};
 ghost use Rattle.cache.specs.Cached.{asked_to};
 ghost use Rattle.lookup.specs.declared.lookup.Kept.TheVariants.{Best};
 ghost use Rattle.lookup.specs.Uses.{IsAskedInPart, IsBestInPart};
@@ -25,7 +23,6 @@ use rdata::{RType, Record, Records};
 use referral::Cut;
 use std::alloc::{Allocator, Global};
 use std::hash::BuildHasher;
-use zone::Link;
 
 /// The result of a look-up without a query to a server.
 #[derive(Drop)]
@@ -199,46 +196,5 @@ pub fn find<S: BuildHasher + Drop, A: Heap>(
             }
         }
         Local::NotHere => { Ok(find_beyond(home, name, kind, stores, now)?) }
-    }
-}
-
-/// Whether `find` would give a link that is no alias for a name and a type at the moment `now`, in milliseconds: records
-/// of that type, or that there are none. A question for them is answered without a query to a server. Nothing is used
-/// in the stores by that, so that no entry stays for longer.
-pub fn holds<S: BuildHasher + Drop, A: Heap>(
-    alloc: A,
-    home: &Home<A>,
-    name: &Name<A>,
-    kind: RType,
-    stores: &Stores<S, A>,
-    now: u64,
-) -> Result<bool, Starved>
-    ensures { IfOk result (λ b. IsTrue b ↔ IsAtHand home.now now name.now (type_number kind) stores.now) }
-{
-    let local = home.catalog().look(alloc, name, kind)?;
-    Ok(ends(home, name, kind, stores, now, local)?)
-}
-
-// Whether there is a link that is no alias, by what the local zones say.
-fn ends<S: BuildHasher + Drop, A: Heap>(
-    home: &Home<A>,
-    name: &Name<A>,
-    kind: RType,
-    stores: &Stores<S, A>,
-    now: u64,
-    local: Local<A>,
-) -> Result<bool, Starved>
-    ensures { IfOk result (λ b. b ≡ ends_by (local_view local) now name.now (type_number kind) (stores.now).cache) }
-{
-    match local {
-        Local::Link(link) => Ok(!matches!(link, Link::Alias(_))),
-        Local::Cut(at, servers, glue) => {
-            drop(servers);
-            drop(glue);
-            let held = stores.holds(name, kind, &at, now);
-            drop(at);
-            Ok(held?)
-        }
-        Local::NotHere => Ok(stores.holds(name, kind, home.root_name(), now)?),
     }
 }

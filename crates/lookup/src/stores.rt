@@ -6,7 +6,7 @@ ghost use Rattle.std.specs.NonZero.{non_zero_usize_get};
 ghost use Rattle.rdata.specs.Types.{type_number};
 ghost use Rattle.zone.specs.Views.{link_view};
 ghost use Rattle.referral.specs.Cuts.{IsBest};
-ghost use Rattle.cache.specs.Cached.{asked_to, has_end, lent, hit_of, IsHeld};
+ghost use Rattle.cache.specs.Cached.{asked_to, lent, hit_of, IsHeld};
 ghost use Rattle.cache.specs.Failures.{failed_ask, is_failed};
 ghost use Rattle.frames.specs.Frames.{opened, fresh_addresses, after_add};
 ghost use Rattle.resolution.specs.Jobs.{level_of, with_answer, with_timeout};
@@ -132,17 +132,17 @@ impl<S: BuildHasher + Drop, A: Heap> Stores<S, A> {
         Ok(self.cache.look(name, kind, top, now)?)
     }
 
-    /// Whether `look` would give a link that is no alias. No entry is used by that.
-    pub fn holds(
+    /// What `look` would give. No entry is used by that.
+    pub fn peek(
         &self,
         name: &Name<A>,
         kind: RType,
         top: &Name<A>,
         now: u64,
-    ) -> Result<bool, Starved>
-        ensures { IfOk result (λ b. b ≡ has_end (hit_of (lent (asked_to top.now name.now (type_number kind)) now self.now.cache))) }
+    ) -> Result<Option<Hit<A>>, Starved>
+        ensures { IfOk result (λ h. h ≡ hit_of (lent (asked_to top.now name.now (type_number kind)) now self.now.cache)) }
     {
-        Ok(self.cache.holds(name, kind, top, now)?)
+        Ok(self.cache.peek(name, kind, top, now)?)
     }
 
     /// The deepest cached delegation that lives at the moment `now`, in milliseconds, and that the name is at or under.

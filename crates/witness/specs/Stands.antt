@@ -22,11 +22,11 @@ use Rattle.front.specs.Chains.{alias_target}
 use Rattle.classify.specs.Classes.{Answer, Referral, class_of}
 use Rattle.rdata.specs.Targets.{targets_of}
 use Rattle.world_truth.specs.Worlds.{World, IsWorld}
+use Rattle.resolution.specs.Held.{IsHeldChain}
 use Rattle.runs.specs.States.{Client, TcpReply, Tick, Action, Reply, Own, OpenQuery, Turn, Plain, ClientQuery, recursive, ByTcp, Ask, Site, State, via_of}
 use Rattle.runs.specs.Messages.{IsSent}
 use Rattle.runs.specs.Runs.{Run, GivesOut, Accepts, Came}
 use Rattle.laws.specs.Headline.{IsHonest, IsHomeIn}
-use Rattle.laws.specs.Held.{IsHeldChain}
 use Rattle.laws.specs.Uses.{KeptAnswer}
 use Rattle.laws.specs.Looks.{IsKeptSince, IsOnlyLiveEntry}
 
