@@ -1,6 +1,6 @@
 -- The names above a name, up to another.
 use Rattle.std.proofs.Common.{◌≡◌, ◌≢◌, ◌⊎◌, inl, inr, ℕ, Bool, true, false, cond, List, [], ◌∷◌, ◌++◌, length, Some, refl, sym, ◌∙◌, ap, subst, arith}
-use Rattle.std.specs.Prelude.{◌↔◌, Contains}
+use Rattle.std.specs.Prelude.{◌↔◌, IsTrue, Contains}
 use Rattle.std.specs.Bool.{OnFalse}
 use Rattle.dname.specs.Labels.{AreLabels, root, same_name, is_under, parent_of, IsAtOrUnder}
 use Rattle.dname.specs.Laws.{same_name-exact, same_name-equal}
@@ -85,3 +85,14 @@ step_none (l ∷ ls) old labels e = ap (above_to (l ∷ ls)) e
 pub step_end : (b : Bool) (top old new : Name) → AreLabels top → OnFalse b ((old ≡ root) × (new ≡ old)) → OnFalse b (above_to top old ≡ [])
 step_end true top old new labels h = h
 step_end false top old new labels h = step_none top old labels h.0
+
+-- ---- whether a name is within another
+
+ends_at_root : (n : Name) → AreLabels n → IsAtOrUnder n root
+ends_at_root [] h = absurd h
+ends_at_root (l ∷ []) h = ([], ap (λ (x : List ℕ). x ∷ []) h)
+ends_at_root (l ∷ m ∷ ls) h = let rest = ends_at_root (m ∷ ls) h.1 in (l ∷ rest.0, ap (λ (x : Name). l ∷ x) rest.1)
+
+pub within_root : (is : Bool) (n top : Name) → AreLabels n → IsTrue is ↔ (top ≡ root) → is ≡ true → is ≡ is_under n top
+within_root false n top labels h t = cc
+within_root true n top labels h t = sym (is_under_holds n top (subst (λ (r : Name). IsAtOrUnder n r) (sym (h.0 refl)) (ends_at_root n labels)))

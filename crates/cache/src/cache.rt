@@ -3,6 +3,7 @@ ghost use Rattle.std.specs.Prelude.{◌≡◌, ◌≢◌, ◌≤◌, [], ◌∷�
 ghost use Rattle.std.specs.Bool.{OnTrue, OnFalse};
 ghost use Rattle.std.specs.NonZero.{non_zero_usize_get};
 ghost use Rattle.lru.specs.LruCache.{lru_cache, IsValid};
+ghost use Rattle.dname.specs.Labels.{is_under};
 ghost use Rattle.rdata.specs.Types.{type_number};
 ghost use Rattle.zone.specs.Views.{link_view};
 ghost use Rattle.lru_laws.specs.Orders.{KeepsOnly, LosesOnly, HasSame};
@@ -66,13 +67,21 @@ fn denies<A: Allocator>(link: &Link<A>) -> bool
     matches!(link, Link::NxDomain(_))
 }
 
+// Whether the name is at or under `top`. Under the root each is, which is seen without passing its labels.
+fn is_within<A: Allocator>(name: &Name<A>, top: &Name<A>) -> bool
+    ensures { result ≡ is_under name.now top.now }
+{
+    name.well_formed_law();
+    top.is_root() || name.is_at_or_under(top)
+}
+
 // Makes the name the one above it; false where that is not at or under `top`.
 fn climb<A: Allocator>(name: &mut Name<A>, top: &Name<A>) -> bool
     ensures up { OnTrue result (above_to top.now name.old ≡ name.new ∷ above_to top.now name.new) }
     ensures end { OnFalse result (above_to top.now name.old ≡ []) }
 {
     top.well_formed_law();
-    name.ascend() && name.is_at_or_under(top)
+    name.ascend() && is_within(name, top)
 }
 
 impl<S: BuildHasher + Drop, A: Heap> Cache<S, A> {
