@@ -6,8 +6,8 @@ import struct
 import threading
 import time
 
-from messages import A, ASKED, NS, PATIENCE, TXT, aside, bound_at, frame, name, next_frame, number_of, query
-from messages import question_of, record, reply
+from messages import A, ASKED, CNAME, NS, PATIENCE, TXT, aside, bound_at, frame, name, next_frame, number_of
+from messages import query, question_of, record, reply
 
 ROOT, SILENT, MUTE, LARGE, FORGED, SWAPPED, SLOW, TRICKLING, TARDY = (f"127.0.0.{last}" for last in range(2, 11))
 STRANGER = "127.0.0.99"
@@ -43,9 +43,11 @@ def delegation(asked, zone, addresses):
 
 
 def of_root(asked, owner):
-    zone = owner.split(".")[-1]
+    host, _, zone = owner.rpartition(".")
     if zone in ZONES:
         return delegation(asked, zone, ZONES[zone])
+    if host == "alias":
+        return answer(asked, name("www." + zone), CNAME)
     return answer(asked, RIGHT)
 
 
