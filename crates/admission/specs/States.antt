@@ -60,10 +60,13 @@ module _ {T : Type 0} where
   abbrev pub has_enough : ℕ → State T → Bool
   has_enough n d = (nat_lt 0 n && nat_le (d.limits.places - d.limits.reserve) (inside d)) || has_share n d
 
-  -- Whether no query from this address is admitted now, nor held: it has as many as one address may have, all
-  -- places are taken, or it has enough.
+  -- Whether an address of so many queries has as many as one address may have, or all places are taken.
+  abbrev pub is_full : ℕ → State T → Bool
+  is_full n d = nat_le d.limits.each n || nat_le d.limits.places (inside d)
+
+  -- Whether no query from this address is admitted now, nor held.
   abbrev pub is_shut : ℕ → State T → Bool
-  is_shut a d = nat_le d.limits.each (of_address a d) || nat_le d.limits.places (inside d) || has_enough (of_address a d) d
+  is_shut a d = is_full (of_address a d) d || has_enough (of_address a d) d
 
   -- What holds of an admission at all times: of equal queries, of one address' and of all there are as many as may be,
   -- and no query waits in vain: as many equal ones are inside as may be.

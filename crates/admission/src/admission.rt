@@ -4,7 +4,7 @@ ghost use Rattle.std.specs.Option.{is_some};
 ghost use Rattle.std.specs.List.{count_by, remove};
 ghost use Rattle.std.specs.VecDeque.{deque_capacity};
 ghost use Rattle.admission.specs.declared.queries.Admitted.{Admitted};
-ghost use Rattle.admission.specs.States.{state, address_in, held_with, held_from, inside, of_key, of_address, has_share, has_enough, is_shut, IsKept};
+ghost use Rattle.admission.specs.States.{state, address_in, held_with, held_from, inside, of_key, of_address, has_share, has_enough, is_full, is_shut, IsKept};
 ghost use Rattle.admission.specs.Moves.{Admits, AdmitsNext, admitted, is_entering, is_open, is_late, opened, left, called, first_of, without_first, taken, dropped};
 
 use crate::limits::Limits;
@@ -186,9 +186,14 @@ impl<T: Drop, A: Allocator> Admission<T, A> {
         ensures { result ≡ is_shut (address_in client) self.now }
     {
         let from_address = self.of_address(address_in(client));
-        self.limits.each <= from_address
-            || self.limits.places <= self.inside()
-            || self.has_enough(from_address)
+        self.is_full(from_address) || self.has_enough(from_address)
+    }
+
+    // Whether an address of so many queries has as many as one address may have, or all places are taken.
+    fn is_full(&self, from_address: usize) -> bool
+        ensures { result ≡ is_full from_address self.now }
+    {
+        self.limits.each <= from_address || self.limits.places <= self.inside()
     }
 
     // Whether an address of so many queries has enough while others may come: it has some and only the reserve is left,
