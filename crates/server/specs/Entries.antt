@@ -85,18 +85,14 @@ is_here (Admitted question) = true
 is_here standing.Held = false
 is_here standing.Dropped = true
 
--- How a question stands by what admission decided. One that is dropped is free in place of that where the machine holds
--- its answer: its step asks no server, so that it needs no place.
+-- How a question stands by what admission decided. One that is dropped may be free where the machine holds its answer:
+-- its step asks no server, so that it needs no place.
 abbrev pub IsLetBy : Type 0 → Standing → Standing → Type 0
 IsLetBy holds Free stands = stands ≡ Free
 IsLetBy holds (Asks question) stands = stands ≡ Asks question
 IsLetBy holds (Admitted question) stands = stands ≡ Admitted question
 IsLetBy holds standing.Held stands = stands ≡ standing.Held
-IsLetBy holds standing.Dropped stands = (holds × (stands ≡ Free)) ⊎ ((holds → ⊥) × (stands ≡ standing.Dropped))
-
--- Admission drops it, and so it stands from now on.
-abbrev pub StaysDropped : Standing → Standing → Type 0
-StaysDropped decided stands = (decided ≡ standing.Dropped) × (stands ≡ standing.Dropped)
+IsLetBy holds standing.Dropped stands = (stands ≡ standing.Dropped) ⊎ (holds × (stands ≡ Free))
 
 -- What admission is told of a message whose step was taken, and asked a server or not: a question that asked one is
 -- open since that moment, and any other leaves.

@@ -14,7 +14,7 @@ use Rattle.server.specs.declared.passage.Standing.{Standing}
 use Rattle.server.specs.declared.passage.Standing.TheVariants.{Free, Asks, Admitted, Held, Dropped}
 use Rattle.server.specs.declared.query.Query.{Query}
 use Rattle.server.specs.declared.shared_admission.Question.{Question}
-use Rattle.server.specs.Entries.{StandsBy}
+use Rattle.server.specs.Entries.{StandsBy, IsLetBy}
 use Rattle.server.specs.Steps.{IsPut}
 
 -- What contracts see of a message under way: how it stands in admission; the event that it is, unless it waits there;
@@ -56,16 +56,16 @@ abbrev pub asks_server : {A : Type 0} → Option (TypedActions A) → Bool
 asks_server None = false
 asks_server (Some given) = asks_first given.first
 
--- A question that asks for admission, and whose query came so, stands from now on so by what admission decides, as this
--- relation has it. Admission hears nothing of that.
-pub record IsEntered {O : Type 0} (lets_by : Standing → Standing → Type 0) (before : State Query) (question : Question) (p q : PassageView O) (after : State Query) : Type 0 where
+-- A question that asks for admission, and whose query came so, stands from now on as admission decides, or is free in
+-- place of dropped, where the machine holds its answer. Admission hears nothing of that.
+pub record IsEntered {O : Type 0} (holds : Type 0) (before : State Query) (question : Question) (p q : PassageView O) (after : State Query) : Type 0 where
   pub moment : ℕ
   pub query : Query
   pub came : p.event ≡ Some (event_of moment query)
   pub decided : Standing
   pub here : Option Query
   pub stands : StandsBy before question moment query decided here after
-  pub let_by : lets_by decided q.standing
+  pub let_by : IsLetBy holds decided q.standing
   pub becomes : q ≡ record p { standing = q.standing; event = option_map (event_of moment) here }
 
 module _ {O : Type 0} where
@@ -73,13 +73,13 @@ module _ {O : Type 0} where
   IsUnchanged before p q after = (q ≡ p) × (after ≡ before)
 
   -- What asks is decided on, unless its query has gone, and all else is left as it is.
-  abbrev pub Enters : (Standing → Standing → Type 0) → Standing → State Query → PassageView O → PassageView O → State Query → Type 0
-  Enters lets_by (Asks question) before p q after =
-      MatchOption p.event (IsUnchanged before p q after) (λ event. IsEntered lets_by before question p q after)
-  Enters lets_by Free before p q after = IsUnchanged before p q after
-  Enters lets_by (Admitted question) before p q after = IsUnchanged before p q after
-  Enters lets_by Held before p q after = IsUnchanged before p q after
-  Enters lets_by Dropped before p q after = IsUnchanged before p q after
+  abbrev pub Enters : (Parsed → Type 0) → Standing → State Query → PassageView O → PassageView O → State Query → Type 0
+  Enters holds (Asks question) before p q after =
+      MatchOption p.event (IsUnchanged before p q after) (λ event. IsEntered (holds p.parsed) before question p q after)
+  Enters holds Free before p q after = IsUnchanged before p q after
+  Enters holds (Admitted question) before p q after = IsUnchanged before p q after
+  Enters holds Held before p q after = IsUnchanged before p q after
+  Enters holds Dropped before p q after = IsUnchanged before p q after
 
 module _ {S O : Type 0} (moves : S → Parsed → Result O Starved → S → Type 0) (begins : S → Type 0) where
   -- The newest step of some history of the machine, on what was read, gave this.

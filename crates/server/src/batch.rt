@@ -174,13 +174,9 @@ impl<M: Answering<Event = TypedEvent, Out = TypedActions>, L: Ledger> Context<'_
         let mut admission = self.common.admission.lock(rt);
         let mut book = self.shared.lock(rt);
         for passage in batch.iter_mut() {
-            match passage.enter(&mut admission, &book) {
-                Ok(true) => {
-                    let _ = passage.step(&mut book, &mut worker.ticket);
-                    passage.settle(&mut admission);
-                }
-                Ok(false) => {}
-                Err(_) => self.common.ends.count(Outcome::MemoryRefused),
+            if passage.enter(&mut admission, &book) {
+                let _ = passage.step(&mut book, &mut worker.ticket);
+                passage.settle(&mut admission);
             }
         }
         drop(book);

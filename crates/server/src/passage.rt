@@ -1,13 +1,12 @@
 //! Clients' messages on their way through the machine: each is read before the lock is taken, its step is taken while
 //! it is held, and what that gives is written behind it.
-ghost use Rattle.std.specs.Prelude.{◌≡◌, true, Some, None, IfOk, IfSome, IfNone, MatchOption, OnOk, OnErr, IfErr};
+ghost use Rattle.std.specs.Prelude.{◌≡◌, true, Some, None, IfOk, IfSome, IfNone, MatchOption, OnOk, IfErr};
 ghost use Rattle.std.specs.Bool.{OnTrue};
 ghost use Rattle.runs.specs.States.{Client, told_moment};
 ghost use Rattle.events.specs.Views.{event_view};
 ghost use Rattle.typed.specs.Events.{ReadAs};
 ghost use Rattle.pool.specs.Closings.{IsEventRefused};
-ghost use Rattle.server.specs.Entries.{StandsAs, StandsBy, IsLetBy, StaysDropped, is_here, is_passed, is_too_long, told};
-ghost use Rattle.server.specs.declared.passage.Standing.TheVariants.{Dropped};
+ghost use Rattle.server.specs.Entries.{StandsAs, StandsBy, IsLetBy, is_here, is_passed, is_too_long, told};
 ghost use Rattle.server.specs.Passages.{Enters, IsAnswered, IsClients, IsOfQuery, TakesStep, asks_server};
 
 use crate::query::{Asker, Query};
@@ -70,26 +69,38 @@ fn stand(
     }
 }
 
+// Whether the machine holds the answer to what was read. Where memory is refused, that is not known.
+fn is_held<M: Answering<Event = TypedEvent, Out = TypedActions>, L: Ledger>(
+    book: &Book<M, L>,
+    parsed: &TypedEvent,
+) -> bool
+    ensures { OnTrue result (M.has_answer book.now.state parsed.now) }
+{
+    match M::holds(book.state(), parsed) {
+        Ok(held) => held,
+        Err(_) => false,
+    }
+}
+
 // How a question stands by what admission decided. One that is dropped is free where the machine holds its answer: its
 // step asks no server, so that it needs no place.
 fn let_by<M: Answering<Event = TypedEvent, Out = TypedActions>, L: Ledger>(
     book: &Book<M, L>,
     parsed: &TypedEvent,
     decided: Standing,
-) -> Result<Standing, Starved>
-    ensures by { IfOk result (IsLetBy (M.has_answer book.now.state parsed.now) decided) }
-    ensures here { IfOk result (λ stands. OnTrue (is_passed stands) (is_here decided ≡ true)) }
-    ensures dropped { OnErr result (decided ≡ Dropped) }
+) -> Standing
+    ensures by { IsLetBy (M.has_answer book.now.state parsed.now) decided result }
+    ensures here { OnTrue (is_passed result) (is_here decided ≡ true) }
 {
     match decided {
         Standing::Dropped => {
-            if M::holds(book.state(), parsed)? {
-                Ok(Standing::Free)
+            if is_held(book, parsed) {
+                Standing::Free
             } else {
-                Ok(Standing::Dropped)
+                Standing::Dropped
             }
         }
-        _ => Ok(decided),
+        _ => decided,
     }
 }
 
@@ -259,26 +270,19 @@ impl<M: Machine<Event = TypedEvent, Out = TypedActions>> Passage<M> {
 
 impl<M: Answering<Event = TypedEvent, Out = TypedActions>> Passage<M> {
     /// Asks for admission, where that is still to be done; whether its step is to be taken now. What admission drops is
-    /// answered all the same where the machine holds its answer. Where memory is refused that is not known, and it is
-    /// dropped.
-    pub fn enter<L: Ledger>(
-        &mut self,
-        admission: &mut Admission<Query>,
-        book: &Book<M, L>,
-    ) -> Result<bool, Starved>
-        ensures passed { IfOk result (λ passed. passed ≡ is_passed self.new.standing) }
-        ensures here { IfOk result (λ passed. OnTrue passed (self.new ≡ record self.old { standing = self.new.standing })) }
-        ensures asked { OnOk result (Enters (IsLetBy (M.has_answer book.now.state self.old.parsed)) self.old.standing admission.old self.old self.new admission.new) }
-        ensures starved { OnErr result (Enters StaysDropped self.old.standing admission.old self.old self.new admission.new) }
+    /// answered all the same where the machine holds its answer.
+    pub fn enter<L: Ledger>(&mut self, admission: &mut Admission<Query>, book: &Book<M, L>) -> bool
+        ensures passed { result ≡ is_passed self.new.standing }
+        ensures here { OnTrue result (self.new ≡ record self.old { standing = self.new.standing }) }
+        ensures asked { Enters (M.has_answer book.now.state) self.old.standing admission.old self.old self.new admission.new }
     {
         if let Standing::Asks(question) = self.standing
             && let Some(query) = self.query.take()
         {
             let (decided, query) = stand(admission, question, self.moment, query);
+            self.standing = let_by(book, &self.parsed, decided);
             self.query = query;
-            self.standing = decided;
-            self.standing = let_by(book, &self.parsed, decided)?;
         }
-        Ok(matches!(self.standing, Standing::Free | Standing::Admitted(_)))
+        matches!(self.standing, Standing::Free | Standing::Admitted(_))
     }
 }
