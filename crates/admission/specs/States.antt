@@ -50,8 +50,8 @@ module _ {T : Type 0} where
   abbrev pub of_address : ℕ → State T → ℕ
   of_address a d = count_by (admitted_from a) d.admitted + count_by (held_from a) d.ready + count_by (held_from a) d.waiting
 
-  -- Whether an address of so many queries has its share: as many as places are free, so that it leaves to the others at
-  -- least what it has. Where one address may have as many as there are places, none has its share.
+  -- Whether an address of so many queries has its share: as many as places are free. The others are left about as many.
+  -- Where one address may have as many as there are places, none has its share.
   abbrev pub has_share : ℕ → State T → Bool
   has_share n d = nat_lt d.limits.each d.limits.places && nat_le (d.limits.places - inside d) n
 

@@ -12,11 +12,12 @@
 //! `expire` and `drop_late` say that time has passed.
 //!
 //! Promised: of equal queries at most `equal` are inside, also where many loops call. Of one address at most `each` are
-//! inside or wait and, unless it may have all places, no more than are free (`has_share`). At most `places` are inside,
-//! the last `reserve` of them from addresses that have no other query here. At most `waiting` wait, and only while
-//! `equal` like them are inside (all by `kept_law`). Those that wait for a key come in in the order in which they came
-//! (`fair_law`). Each that waits comes in once, is handed out as failed once, or is dropped once (`once_law`). `new`
-//! takes all memory that is ever wanted. What each call does its contract says (`specs/Moves.antt`).
+//! inside or wait. At most `places` are inside, the last `reserve` of them from addresses that have no other query
+//! here. At most `waiting` wait, and only while `equal` like them are inside (all by `kept_law`). An address with as
+//! many as places are free is not admitted, unless it may have all (`has_share`). Those that wait for a key come in in
+//! their order (`fair_law`). Each that waits comes in once, is handed out as failed once, or is dropped once
+//! (`once_law`). `new` takes all memory that is ever wanted. What each call does its contract says
+//! (`specs/Moves.antt`).
 //! Not here: that a reply comes, or that the caller says so. So a query that is open for 12,000 ms leaves with
 //! `expire`; and one that waited for 5,000 ms is dropped with `drop_late`.
 //!
