@@ -207,8 +207,8 @@ fn comes_about<H: Allocator>(heap: &Refusing<H>) -> bool {
 fn an_admission_takes_its_memory_at_once(rt: HostRuntime) -> Result<(), test::Fail> {
     let heap = Refusing::new(rt.alloc());
     assert!(rt; comes_about(&heap));
-    assert_eq!(rt; heap.growths(), 3);
-    for n in 0..3 {
+    assert_eq!(rt; heap.growths(), 4);
+    for n in 0..4 {
         heap.refuse_after(n);
         assert!(rt; !comes_about(&heap));
     }
