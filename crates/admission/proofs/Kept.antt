@@ -55,8 +55,8 @@ module _ {T : Type 0} (d : State T) (kept : IsKept d) where
       none_waits q.key (omega (arith, few, m, z))
 
   -- A query that is admitted.
-  pub kept_admitted : (q : Admitted) → of_key q.key d < d.limits.equal → is_shut (address_in q.client) d ≡ false → IsKept (state d.limits (d.admitted ++ q ∷ []) d.ready d.waiting)
-  kept_admitted q few open_to = record { equal = equal; each = each; places = places; few = kept.few; not_in_vain = not_in_vain }
+  pub kept_admitted : (q : Admitted) (answered : Bool) → of_key q.key d < d.limits.equal → is_shut (address_in q.client) q.domain answered d ≡ false → IsKept (state d.limits (d.admitted ++ q ∷ []) d.ready d.waiting)
+  kept_admitted q answered few open_to = record { equal = equal; each = each; places = places; few = kept.few; not_in_vain = not_in_vain }
     where
       a : ℕ
       a = address_in q.client
@@ -107,8 +107,8 @@ module _ {T : Type 0} (d : State T) (kept : IsKept d) where
           omega (arith, h, n, z))
 
   -- A query that waits.
-  pub kept_waiting : (q : Held T) → d.limits.equal ≤ of_key q.key d → is_shut (address_in q.client) d ≡ false → length d.waiting < d.limits.waiting → IsKept (state d.limits d.admitted d.ready (d.waiting ++ q ∷ []))
-  kept_waiting q many open_to room = record { equal = kept.equal; each = each; places = kept.places; few = few; not_in_vain = not_in_vain }
+  pub kept_waiting : (q : Held T) (answered : Bool) → d.limits.equal ≤ of_key q.key d → is_shut (address_in q.client) q.domain answered d ≡ false → length d.waiting < d.limits.waiting → IsKept (state d.limits d.admitted d.ready (d.waiting ++ q ∷ []))
+  kept_waiting q answered many open_to room = record { equal = kept.equal; each = each; places = kept.places; few = few; not_in_vain = not_in_vain }
     where
       below : of_address (address_in q.client) d < d.limits.each
       below = leb-false d.limits.each (of_address (address_in q.client) d) (first_false (leb d.limits.each (of_address (address_in q.client) d)) (leb d.limits.places (inside d)) _ open_to)
@@ -148,36 +148,36 @@ module _ {T : Type 0} (d : State T) (kept : IsKept d) where
   }
 
   -- A query that was called in and is admitted.
-  pub kept_next : (q : Held T) (qs : List (Held T)) → d.ready ≡ q ∷ qs → IsKept (state d.limits (d.admitted ++ admitted q.key q.client None ∷ []) qs d.waiting)
+  pub kept_next : (q : Held T) (qs : List (Held T)) → d.ready ≡ q ∷ qs → IsKept (state d.limits (d.admitted ++ admitted q.key q.client q.domain None ∷ []) qs d.waiting)
   kept_next q qs e = record { equal = equal; each = each; places = places; few = kept.few; not_in_vain = not_in_vain }
     where
       a : Admitted
-      a = admitted q.key q.client None
+      a = admitted q.key q.client q.domain None
 
-      keys : (k : ℕ) → of_key k (state d.limits (d.admitted ++ admitted q.key q.client None ∷ []) qs d.waiting) ≡ of_key k d
+      keys : (k : ℕ) → of_key k (state d.limits (d.admitted ++ admitted q.key q.client q.domain None ∷ []) qs d.waiting) ≡ of_key k d
       keys k =
-          let n : count_by (admitted_with k) (d.admitted ++ admitted q.key q.client None ∷ []) ≡ count_by (admitted_with k) d.admitted + one (eqb q.key k) = count-push (admitted_with k) d.admitted (admitted q.key q.client None) in
+          let n : count_by (admitted_with k) (d.admitted ++ admitted q.key q.client q.domain None ∷ []) ≡ count_by (admitted_with k) d.admitted + one (eqb q.key k) = count-push (admitted_with k) d.admitted (admitted q.key q.client q.domain None) in
           let m : count_by (held_with k) d.ready ≡ one (eqb q.key k) + count_by (held_with k) qs = ap (λ xs. count_by (held_with k) xs) e ∙ count-cons (held_with k) q qs in
           omega (arith, n, m)
 
-      equal : (k : ℕ) → of_key k (state d.limits (d.admitted ++ admitted q.key q.client None ∷ []) qs d.waiting) ≤ d.limits.equal
-      equal k = let h : of_key k d ≤ d.limits.equal = kept.equal k in let n : of_key k (state d.limits (d.admitted ++ admitted q.key q.client None ∷ []) qs d.waiting) ≡ of_key k d = keys k in omega (arith, h, n)
+      equal : (k : ℕ) → of_key k (state d.limits (d.admitted ++ admitted q.key q.client q.domain None ∷ []) qs d.waiting) ≤ d.limits.equal
+      equal k = let h : of_key k d ≤ d.limits.equal = kept.equal k in let n : of_key k (state d.limits (d.admitted ++ admitted q.key q.client q.domain None ∷ []) qs d.waiting) ≡ of_key k d = keys k in omega (arith, h, n)
 
-      each : (b : ℕ) → of_address b (state d.limits (d.admitted ++ admitted q.key q.client None ∷ []) qs d.waiting) ≤ d.limits.each
+      each : (b : ℕ) → of_address b (state d.limits (d.admitted ++ admitted q.key q.client q.domain None ∷ []) qs d.waiting) ≤ d.limits.each
       each b =
           let h : of_address b d ≤ d.limits.each = kept.each b in
-          let n : count_by (admitted_from b) (d.admitted ++ admitted q.key q.client None ∷ []) ≡ count_by (admitted_from b) d.admitted + one (eqb (address_in q.client) b) = count-push (admitted_from b) d.admitted (admitted q.key q.client None) in
+          let n : count_by (admitted_from b) (d.admitted ++ admitted q.key q.client q.domain None ∷ []) ≡ count_by (admitted_from b) d.admitted + one (eqb (address_in q.client) b) = count-push (admitted_from b) d.admitted (admitted q.key q.client q.domain None) in
           let m : count_by (held_from b) d.ready ≡ one (eqb (address_in q.client) b) + count_by (held_from b) qs = ap (λ xs. count_by (held_from b) xs) e ∙ count-cons (held_from b) q qs in
           omega (arith, h, n, m)
 
-      places : inside (state d.limits (d.admitted ++ admitted q.key q.client None ∷ []) qs d.waiting) ≤ d.limits.places
+      places : inside (state d.limits (d.admitted ++ admitted q.key q.client q.domain None ∷ []) qs d.waiting) ≤ d.limits.places
       places =
           let h : inside d ≤ d.limits.places = kept.places in
-          let n : length (d.admitted ++ admitted q.key q.client None ∷ []) ≡ length d.admitted + 1 = longer d.admitted (admitted q.key q.client None) in
+          let n : length (d.admitted ++ admitted q.key q.client q.domain None ∷ []) ≡ length d.admitted + 1 = longer d.admitted (admitted q.key q.client q.domain None) in
           let m : length d.ready ≡ suc (length qs) = ap length e in
           omega (arith, h, n, m)
 
-      not_in_vain : (k : ℕ) → 0 < waiting_of k d → of_key k (state d.limits (d.admitted ++ admitted q.key q.client None ∷ []) qs d.waiting) ≡ d.limits.equal
+      not_in_vain : (k : ℕ) → 0 < waiting_of k d → of_key k (state d.limits (d.admitted ++ admitted q.key q.client q.domain None ∷ []) qs d.waiting) ≡ d.limits.equal
       not_in_vain k some = keys k ∙ kept.not_in_vain k some
 
   -- A query that was admitted and stands at the end now.

@@ -1,5 +1,5 @@
 -- The laws: what is kept over runs, the order in line, and that each is handed out or dropped once.
-use Rattle.std.proofs.Common.{◌≡◌, ℕ, Bool, true, List, [], ◌∷◌, Option, Some, None, refl, sym, subst, arith}
+use Rattle.std.proofs.Common.{◌≡◌, ℕ, Bool, List, [], ◌∷◌, Option, Some, None, refl, sym, subst, arith}
 use Rattle.std.specs.List.{filter}
 use Rattle.admission.specs.declared.limits.Limits.{Limits}
 use Rattle.admission.specs.declared.queries.Admitted.{Admitted}
@@ -7,16 +7,14 @@ use Rattle.admission.specs.declared.queries.Decision.TheVariants.{In, Waits, Ref
 use Rattle.admission.specs.States.{State, state, held_with, IsKept}
 use Rattle.admission.specs.Moves.{opened_as, left, left_by, first_of, without_first, held, admitted, may_wait, is_entering, is_open, is_late}
 use Rattle.admission.specs.Runs.{Move, admits, opens, settles, closes, expires, fails, admits_next, drops, Moves, Runs}
-use Rattle.admission.proofs.Lists.{count_without, length_without, passes, fewer_without, shorter_without, fewer_filtered, shorter_filtered}
+use Rattle.admission.proofs.Lists.{count_without, length_without, fewer_without, shorter_without, fewer_filtered, shorter_filtered}
 use Rattle.admission.proofs.Kept.{kept_admitted, kept_waiting, kept_fewer, kept_next, kept_moved, kept_left}
-use Rattle.admission.proofs.Steps.{key_of, client_of}
 
 module _ {T : Type 0} where
   kept_opened_as : (d : State T) (o : Option Admitted) (k c m : ℕ) → first_of (is_entering k c) d.admitted ≡ o → IsKept d → IsKept (opened_as o k c m d)
   kept_opened_as d None k c m e kept = kept
   kept_opened_as d (Some q) k c m e kept =
-      let t : is_entering k c q ≡ true = passes (is_entering k c) d.admitted q e in
-      kept_moved d kept q (admitted k c (Some m)) (without_first (is_entering k c) d.admitted) (λ p. count_without (is_entering k c) p d.admitted q e) (length_without (is_entering k c) d.admitted q e) (key_of k c q t) (client_of k c q t)
+      kept_moved d kept q (record q { opened = Some m }) (without_first (is_entering k c) d.admitted) (λ p. count_without (is_entering k c) p d.admitted q e) (length_without (is_entering k c) d.admitted q e) refl refl
 
   kept_left_by : (d : State T) (test : Admitted → Bool) (o : Option Admitted) → first_of test d.admitted ≡ o → IsKept d → IsKept (left_by o test d)
   kept_left_by d test None e kept = kept
@@ -27,9 +25,9 @@ module _ {T : Type 0} where
   kept_left_all d e test is kept = subst (λ s. IsKept s) (sym is) (kept_left_by d test (first_of test d.admitted) refl kept)
 
   pub kept_moves : (m : Move T) (d e : State T) → Moves m d e → IsKept d → IsKept e
-  kept_moves (admits k c moment p (In given)) d e h kept = subst (λ s. IsKept s) (sym h.3) (kept_admitted d kept (admitted k c None) h.1 h.0)
-  kept_moves (admits k c moment p Waits) d e h kept = subst (λ s. IsKept s) (sym h.3) (kept_waiting d kept (held k c moment p) h.1 h.0 h.2)
-  kept_moves (admits k c moment p (Refused given)) d e h kept = subst (λ s. IsKept s) (sym h.2) kept
+  kept_moves (admits k c s answered moment p (In given)) d e h kept = subst (λ s. IsKept s) (sym h.3) (kept_admitted d kept (admitted k c s None) answered h.1 h.0)
+  kept_moves (admits k c s answered moment p Waits) d e h kept = subst (λ s. IsKept s) (sym h.3) (kept_waiting d kept (held k c s moment p) answered h.1 h.0 h.2)
+  kept_moves (admits k c s answered moment p (Refused given)) d e h kept = subst (λ s. IsKept s) (sym h.2) kept
   kept_moves (opens k c moment) d e h kept = subst (λ s. IsKept s) (sym h) (kept_opened_as d (first_of (is_entering k c) d.admitted) k c moment refl kept)
   kept_moves (settles k c) d e h kept = kept_left_all d e (is_entering k c) h kept
   kept_moves (closes k c) d e h kept = kept_left_all d e (is_open k c) h kept

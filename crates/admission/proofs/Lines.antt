@@ -66,9 +66,9 @@ module _ {X : Type 0} where
 
 module _ {T : Type 0} where
   -- A query that waits stands at the end of its line.
-  pub line_waits : (d e : State T) (k c moment : ℕ) (p : T) → Admits d k c moment p Waits e → line k e ≡ line k d ++ held k c moment p ∷ []
-  line_waits d e k c moment p h =
-      let q : Held T = held k c moment p in
+  pub line_waits : (d e : State T) (k c s moment : ℕ) (answered : Bool) (p : T) → Admits d k c s answered moment p Waits e → line k e ≡ line k d ++ held k c s moment p ∷ []
+  line_waits d e k c s moment answered p h =
+      let q : Held T = held k c s moment p in
       ap (λ s. line k s) h.3
       ∙ ap (λ zs. filter (held_with k) d.ready ++ zs) (filtered_push (held_with k) d.waiting q ∙ ap (λ zs. filter (held_with k) d.waiting ++ zs) (when_true (q ∷ []) [] (eq-eqb k k refl)))
       ∙ sym (append_assoc (filter (held_with k) d.ready) (filter (held_with k) d.waiting) (q ∷ []))
@@ -147,14 +147,14 @@ module _ {T : Type 0} where
       omega (arith, n, m)
 
   once : (m : Move T) (d e : State T) (p : Held T → Bool) → Moves m d e → count_by p (told m) + held_by p d ≡ count_by p (ended m) + held_by p e
-  once (admits k c moment x (In given)) d e p h = let s : held_by p e ≡ held_by p d = ap (λ s. held_by p s) h.3 in omega (arith, s)
-  once (admits k c moment x Waits) d e p h =
-      let q : Held T = held k c moment x in
-      let s : held_by p e ≡ count_by p d.ready + count_by p (d.waiting ++ held k c moment x ∷ []) = ap (λ s. held_by p s) h.3 in
-      let n : count_by p (d.waiting ++ held k c moment x ∷ []) ≡ count_by p d.waiting + one (p (held k c moment x)) = count-push p d.waiting (held k c moment x) in
-      let m : count_by p (held k c moment x ∷ []) ≡ one (p (held k c moment x)) + 0 = count-cons p (held k c moment x) [] in
+  once (admits k c z answered moment x (In given)) d e p h = let s : held_by p e ≡ held_by p d = ap (λ s. held_by p s) h.3 in omega (arith, s)
+  once (admits k c z answered moment x Waits) d e p h =
+      let q : Held T = held k c z moment x in
+      let s : held_by p e ≡ count_by p d.ready + count_by p (d.waiting ++ held k c z moment x ∷ []) = ap (λ s. held_by p s) h.3 in
+      let n : count_by p (d.waiting ++ held k c z moment x ∷ []) ≡ count_by p d.waiting + one (p (held k c z moment x)) = count-push p d.waiting (held k c z moment x) in
+      let m : count_by p (held k c z moment x ∷ []) ≡ one (p (held k c z moment x)) + 0 = count-cons p (held k c z moment x) [] in
       omega (arith, s, n, m)
-  once (admits k c moment x (Refused given)) d e p h = let s : held_by p e ≡ held_by p d = ap (λ s. held_by p s) h.2 in omega (arith, s)
+  once (admits k c z answered moment x (Refused given)) d e p h = let s : held_by p e ≡ held_by p d = ap (λ s. held_by p s) h.2 in omega (arith, s)
   once (opens k c moment) d e p h =
       let s : held_by p e ≡ held_by p d = ap (λ s. held_by p s) h ∙ held_opened d p (first_of (is_entering k c) d.admitted) k c moment in omega (arith, s)
   once (settles k c) d e p h = let s : held_by p e ≡ held_by p d = ap (λ s. held_by p s) h ∙ held_left_by d p (is_entering k c) (first_of (is_entering k c) d.admitted) in omega (arith, s)

@@ -32,41 +32,46 @@ abbrev pub is_late_since : ℕ → Option ℕ → Bool
 is_late_since now None = false
 is_late_since now (Some moment) = nat_le OPEN_MS (now - moment)
 
+-- The domain of a query, if there is one.
+abbrev pub domain_in : Option Admitted → Option ℕ
+domain_in None = None
+domain_in (Some q) = Some q.domain
+
 -- Whether it has been open for its time.
 abbrev pub is_late : ℕ → Admitted → Bool
 is_late now q = is_late_since now q.opened
 
 -- A query that was admitted.
-abbrev pub admitted : ℕ → ℕ → Option ℕ → Admitted
-admitted k c since = record { key = k; client = c; opened = since }
+abbrev pub admitted : ℕ → ℕ → ℕ → Option ℕ → Admitted
+admitted k c s since = record { key = k; client = c; domain = s; opened = since }
 
 module _ {T : Type 0} where
   -- A query that is held.
-  abbrev pub held : ℕ → ℕ → ℕ → T → Held T
-  held k c moment p = record { key = k; client = c; since = moment; payload = p }
+  abbrev pub held : ℕ → ℕ → ℕ → ℕ → T → Held T
+  held k c s moment p = record { key = k; client = c; domain = s; since = moment; payload = p }
 
   -- Whether it has waited for less than its time.
   abbrev pub may_wait : ℕ → Held T → Bool
   may_wait now q = nat_lt (now - q.since) WAIT_MS
 
   -- A query comes. It is admitted where fewer equal ones are inside than may be, waits where not, and is refused
-  -- where its address is shut out or too many wait.
-  abbrev pub Admits : State T → ℕ → ℕ → ℕ → T → Decision T → State T → Type 0
-  Admits d k c moment p (In given) e =
-      (is_shut (address_in c) d ≡ false) × (of_key k d < d.limits.equal)
-      × (given ≡ p) × (e ≡ record d { admitted = d.admitted ++ admitted k c None ∷ [] })
-  Admits d k c moment p Waits e =
-      (is_shut (address_in c) d ≡ false) × (d.limits.equal ≤ of_key k d) × (length d.waiting < d.limits.waiting)
-      × (e ≡ record d { waiting = d.waiting ++ held k c moment p ∷ [] })
-  Admits d k c moment p (Refused given) e =
-      ((is_shut (address_in c) d ≡ true) ⊎ ((d.limits.equal ≤ of_key k d) × (d.limits.waiting ≤ length d.waiting)))
+  -- where its address or its domain is shut out or too many wait.
+  abbrev pub Admits : State T → ℕ → ℕ → ℕ → Bool → ℕ → T → Decision T → State T → Type 0
+  Admits d k c s answered moment p (In given) e =
+      (is_shut (address_in c) s answered d ≡ false) × (of_key k d < d.limits.equal)
+      × (given ≡ p) × (e ≡ record d { admitted = d.admitted ++ admitted k c s None ∷ [] })
+  Admits d k c s answered moment p Waits e =
+      (is_shut (address_in c) s answered d ≡ false) × (d.limits.equal ≤ of_key k d) × (length d.waiting < d.limits.waiting)
+      × (e ≡ record d { waiting = d.waiting ++ held k c s moment p ∷ [] })
+  Admits d k c s answered moment p (Refused given) e =
+      ((is_shut (address_in c) s answered d ≡ true) ⊎ ((d.limits.equal ≤ of_key k d) × (d.limits.waiting ≤ length d.waiting)))
       × (given ≡ p) × (e ≡ d)
 
   -- A query, if there is one, is open since that moment.
   abbrev pub opened_as : Option Admitted → ℕ → ℕ → ℕ → State T → State T
   opened_as None k c moment d = d
   opened_as (Some q) k c moment d =
-      record d { admitted = without_first (is_entering k c) d.admitted ++ admitted k c (Some moment) ∷ [] }
+      record d { admitted = without_first (is_entering k c) d.admitted ++ record q { opened = Some moment } ∷ [] }
 
   -- The step of a query has asked other servers: the first that enters with this key, from this client, is open since
   -- that moment.
@@ -93,7 +98,8 @@ module _ {T : Type 0} where
   abbrev pub AdmitsNext : State T → Option (Held T) → State T → Type 0
   AdmitsNext d None e = (d.ready ≡ []) × (e ≡ d)
   AdmitsNext d (Some q) e =
-      (d.ready ≡ q ∷ e.ready) × (e ≡ state d.limits (d.admitted ++ admitted q.key q.client None ∷ []) e.ready d.waiting)
+      (d.ready ≡ q ∷ e.ready)
+      × (e ≡ state d.limits (d.admitted ++ admitted q.key q.client q.domain None ∷ []) e.ready d.waiting)
 
   -- The first that waits with this key no longer waits.
   abbrev pub taken : ℕ → State T → State T

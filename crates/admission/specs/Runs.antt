@@ -22,7 +22,7 @@ module _ {T : Type 0} where
 
 -- A call, and what it answered.
 pub data Move (T : Type 0) : Type 0 where
-  admits : ℕ → ℕ → ℕ → T → Decision T → Move T
+  admits : ℕ → ℕ → ℕ → Bool → ℕ → T → Decision T → Move T
   opens : ℕ → ℕ → ℕ → Move T
   settles : ℕ → ℕ → Move T
   closes : ℕ → ℕ → Move T
@@ -34,7 +34,7 @@ pub data Move (T : Type 0) : Type 0 where
 module _ {T : Type 0} where
   -- What a call does.
   abbrev pub Moves : Move T → State T → State T → Type 0
-  Moves (admits k c moment p r) d e = Admits d k c moment p r e
+  Moves (admits k c s answered moment p r) d e = Admits d k c s answered moment p r e
   Moves (opens k c moment) d e = e ≡ opened k c moment d
   Moves (settles k c) d e = e ≡ left (is_entering k c) d
   Moves (closes k c) d e = e ≡ left (is_open k c) d
@@ -49,14 +49,14 @@ module _ {T : Type 0} where
   Runs (m ∷ ms) d e = (f : State T) × Moves m d f × Runs ms f e
 
   -- Who was told to wait, by one answer.
-  abbrev pub told_by : ℕ → ℕ → ℕ → T → Decision T → List (Held T)
-  told_by k c moment p (In given) = []
-  told_by k c moment p Waits = held k c moment p ∷ []
-  told_by k c moment p (Refused given) = []
+  abbrev pub told_by : ℕ → ℕ → ℕ → ℕ → T → Decision T → List (Held T)
+  told_by k c s moment p (In given) = []
+  told_by k c s moment p Waits = held k c s moment p ∷ []
+  told_by k c s moment p (Refused given) = []
 
   -- Who was told to wait.
   abbrev pub told : Move T → List (Held T)
-  told (admits k c moment p r) = told_by k c moment p r
+  told (admits k c s answered moment p r) = told_by k c s moment p r
   told _ = []
 
   -- Who was handed out, or dropped: he came in, or was failed, or had waited for his time.

@@ -4,13 +4,13 @@ ghost use Rattle.std.specs.Option.{is_some};
 ghost use Rattle.std.specs.List.{count_by, remove};
 ghost use Rattle.std.specs.VecDeque.{deque_capacity};
 ghost use Rattle.admission.specs.declared.queries.Admitted.{Admitted};
-ghost use Rattle.admission.specs.States.{state, address_in, held_with, held_from, inside, of_key, of_address, has_share, has_enough, is_full, is_shut, IsKept};
-ghost use Rattle.admission.specs.Moves.{Admits, AdmitsNext, admitted, is_entering, is_open, is_late, opened, left, called, first_of, without_first, taken, dropped};
+ghost use Rattle.admission.specs.States.{state, address_in, held_with, held_from, inside, of_key, of_address, of_domain, left_for, domain_has_share, has_share, has_enough, leaves_out, is_full, is_shut, IsKept};
+ghost use Rattle.admission.specs.Moves.{Admits, AdmitsNext, admitted, is_entering, is_open, is_late, opened, left, domain_in, called, first_of, without_first, taken, dropped};
 
-use crate::limits::Limits;
+use crate::limits::{DOMAIN_SHARE, Limits};
 use crate::places::{
-    address_in, admitted_from, admitted_with, held_from, held_with, place_of_entering,
-    place_of_late, place_of_open,
+    address_in, admitted_from, admitted_in, admitted_with, held_from, held_in, held_with,
+    place_of_entering, place_of_late, place_of_open,
 };
 use crate::queries::{Admitted, Decision, Held};
 use crate::queue::Queue;
@@ -61,15 +61,24 @@ impl<T: Drop, A: Heap> Admission<T, A> {
 impl<T: Drop, A: Allocator> Admission<T, A> {
     /// A query comes, with what is needed to put it in. It is admitted where fewer equal ones are inside than may be,
     /// and waits where not. It is refused, and nothing changes, where its address or the places are full, its address
-    /// has as many as places are free, or too many wait.
-    pub fn admit(&mut self, key: u64, client: u64, moment: u64, payload: T) -> Decision<T>
-        ensures { Admits self.old key client moment payload result self.new }
+    /// has as many as places are free, its domain three times as many as are left for it, or too many wait. The last
+    /// places are for domains of which a name was answered.
+    pub fn admit(
+        &mut self,
+        key: u64,
+        client: u64,
+        domain: u64,
+        was_answered: bool,
+        moment: u64,
+        payload: T,
+    ) -> Decision<T>
+        ensures { Admits self.old key client domain was_answered moment payload result self.new }
     {
-        if self.is_shut(client) {
+        if self.is_shut(client, domain, was_answered) {
             return Decision::Refused(payload);
         }
         if self.of_key(key) < self.limits.equal {
-            self.admit_now(key, client);
+            self.admit_now(key, client, domain, was_answered);
             return Decision::In(payload);
         }
         if self.limits.waiting <= self.waiting.len() {
@@ -78,6 +87,7 @@ impl<T: Drop, A: Allocator> Admission<T, A> {
         let query = Held {
             key,
             client,
+            domain,
             since: moment,
             payload,
         };
@@ -100,11 +110,10 @@ impl<T: Drop, A: Allocator> Admission<T, A> {
         let Some(place) = place_of_entering(&self.admitted, key, client) else {
             return;
         };
-        self.admitted.remove(place);
+        let entering = self.admitted.remove(place);
         let query = Admitted {
-            key,
-            client,
             opened: Some(moment),
+            ..entering
         };
         self.admitted.push(query).unwrap();
     }
@@ -119,14 +128,18 @@ impl<T: Drop, A: Allocator> Admission<T, A> {
         }
     }
 
-    /// A reply to an open query has gone out: it leaves, and the first that waits for its key is called in. Nothing
-    /// changes where no such query is open.
-    pub fn closed(&mut self, key: u64, client: u64)
-        ensures { self.new ≡ left (is_open key client) self.old }
+    /// A reply to an open query has gone out: it leaves, and the first that waits for its key is called in. Its domain, or
+    /// None, and no change, where no such query is open.
+    pub fn closed(&mut self, key: u64, client: u64) -> Option<u64>
+        ensures left { self.new ≡ left (is_open key client) self.old }
+        ensures domain { result ≡ domain_in (first_of (is_open key client) self.old.admitted) }
     {
-        if let Some(place) = place_of_open(&self.admitted, key, client) {
-            self.leave(place);
-        }
+        let Some(place) = place_of_open(&self.admitted, key, client) else {
+            return None;
+        };
+        let domain = self.admitted[place].domain;
+        self.leave(place);
+        Some(domain)
     }
 
     /// The first query that has been open for its time leaves, and the first that waits for its key is called in;
@@ -159,6 +172,7 @@ impl<T: Drop, A: Allocator> Admission<T, A> {
         let admitted = Admitted {
             key: query.key,
             client: query.client,
+            domain: query.domain,
             opened: None,
         };
         self.admitted.push(admitted).unwrap();
@@ -181,12 +195,42 @@ impl<T: Drop, A: Allocator> Admission<T, A> {
         self.waiting.drop_late(now)
     }
 
-    // Whether no query from the address of that client is admitted now, nor held.
-    fn is_shut(&self, client: u64) -> bool
-        ensures { result ≡ is_shut (address_in client) self.now }
+    // Whether no query from the address of that client in that domain, of which a name was answered or not, is admitted
+    // now, nor held.
+    fn is_shut(&self, client: u64, domain: u64, was_answered: bool) -> bool
+        ensures { result ≡ is_shut (address_in client) domain was_answered self.now }
     {
         let from_address = self.of_address(address_in(client));
-        self.is_full(from_address) || self.has_enough(from_address)
+        self.is_full(from_address) || self.leaves_out(from_address, domain, was_answered)
+    }
+
+    // Whether a query is left out that is from an address of so many, in that domain.
+    fn leaves_out(&self, from_address: usize, domain: u64, was_answered: bool) -> bool
+        ensures { result ≡ leaves_out from_address domain was_answered self.now }
+    {
+        self.has_enough(from_address) || self.domain_has_share(self.of_domain(domain), was_answered)
+    }
+
+    // Whether a domain of so many queries has its share: three times as many as places are left for it.
+    fn domain_has_share(&self, in_domain: usize, was_answered: bool) -> bool
+        ensures { result ≡ domain_has_share in_domain was_answered self.now }
+    {
+        self.left_for(was_answered) <= in_domain / DOMAIN_SHARE
+    }
+
+    // How many places are left for a query in a domain of which a name was answered, or none was.
+    fn left_for(&self, was_answered: bool) -> usize
+        ensures { result ≡ left_for was_answered self.now }
+    {
+        let others = if was_answered {
+            0
+        } else {
+            self.limits.answered
+        };
+        self.limits
+            .places
+            .saturating_sub(others)
+            .saturating_sub(self.inside())
     }
 
     // Whether an address of so many queries has as many as one address may have, or all places are taken.
@@ -259,14 +303,22 @@ impl<T: Drop, A: Allocator> Admission<T, A> {
             + self.waiting.from_address(address)
     }
 
+    // How many in this domain are inside.
+    fn of_domain(&self, domain: u64) -> usize
+        ensures { result ≡ of_domain domain self.now }
+    {
+        admitted_in(&self.admitted, domain) + held_in(&self.ready, domain)
+    }
+
     // Admits a query, whose step then runs.
-    fn admit_now(&mut self, key: u64, client: u64)
-        requires { (of_key key self.old < self.old.limits.equal) × (is_shut (address_in client) self.old ≡ false) }
-        ensures { self.new ≡ state self.old.limits (self.old.admitted ++ admitted key client None ∷ []) self.old.ready self.old.waiting }
+    fn admit_now(&mut self, key: u64, client: u64, domain: u64, was_answered: bool)
+        requires { (of_key key self.old < self.old.limits.equal) × (is_shut (address_in client) domain was_answered self.old ≡ false) }
+        ensures { self.new ≡ state self.old.limits (self.old.admitted ++ admitted key client domain None ∷ []) self.old.ready self.old.waiting }
     {
         let query = Admitted {
             key,
             client,
+            domain,
             opened: None,
         };
         self.admitted.push(query).unwrap();

@@ -20,7 +20,7 @@ pub fn kept_law<T>()
 /// Those that are told to wait for a key stand in line, the new ones at the end. Whoever comes in was the first of
 /// the line of its key; that another leaves changes no line; and who fails was the first of those that wait.
 pub fn fair_law<T>()
-    ensures waits { (d e : State T) (k c moment : ℕ) (p : T) → Admits d k c moment p Decision.Waits e → line k e ≡ line k d ++ held k c moment p ∷ [] }
+    ensures waits { (d e : State T) (k c s moment : ℕ) (answered : Bool) (p : T) → Admits d k c s answered moment p Decision.Waits e → line k e ≡ line k d ++ held k c s moment p ∷ [] }
     ensures left { (d : State T) (test : Admitted → Bool) (k : ℕ) → line k (left test d) ≡ line k d }
     ensures comes { (d e : State T) (q : Held T) → AdmitsNext d (Some q) e → line q.key d ≡ q ∷ line q.key e }
     ensures others { (d e : State T) (q : Held T) (k : ℕ) → AdmitsNext d (Some q) e → nat_eq q.key k ≡ false → line k d ≡ line k e }

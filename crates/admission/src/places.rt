@@ -1,8 +1,8 @@
-//! How many queries there are of a key and of an address, and where the first of a kind stands.
+//! How many queries there are of a key, of an address and of a domain, and where the first of a kind stands.
 ghost use Rattle.std.specs.Prelude.{◌≡◌, ◌+◌, length};
 ghost use Rattle.std.specs.List.{count_by, filter, position};
 ghost use Rattle.std.specs.VecDeque.{deque_capacity};
-ghost use Rattle.admission.specs.States.{address_in, admitted_with, admitted_from, held_with, held_from};
+ghost use Rattle.admission.specs.States.{address_in, admitted_with, admitted_from, admitted_in, held_with, held_from, held_in};
 ghost use Rattle.admission.specs.Moves.{is_entering, is_open, is_late, may_wait};
 ghost use Rattle.admission.specs.Waiting.{is_address};
 
@@ -35,6 +35,16 @@ pub fn admitted_from(queries: &[Admitted], address: u64) -> usize
         .count()
 }
 
+/// How many of them are in that domain.
+pub fn admitted_in(queries: &[Admitted], domain: u64) -> usize
+    ensures { result ≡ count_by (admitted_in domain) queries.now }
+{
+    queries
+        .iter()
+        .filter(|query| query.domain == domain)
+        .count()
+}
+
 /// How many of them have that key.
 pub fn held_with<T, A: Allocator>(queries: &VecDeque<Held<T>, A>, key: u64) -> usize
     ensures { result ≡ count_by (held_with key) queries.now.items }
@@ -49,6 +59,16 @@ pub fn held_from<T, A: Allocator>(queries: &VecDeque<Held<T>, A>, address: u64) 
     queries
         .iter()
         .filter(|query| address_in(query.client) == address)
+        .count()
+}
+
+/// How many of them are in that domain.
+pub fn held_in<T, A: Allocator>(queries: &VecDeque<Held<T>, A>, domain: u64) -> usize
+    ensures { result ≡ count_by (held_in domain) queries.now.items }
+{
+    queries
+        .iter()
+        .filter(|query| query.domain == domain)
         .count()
 }
 

@@ -1,4 +1,4 @@
-//! Queries as admission sees them: by key, client and moment.
+//! Queries as admission sees them: by key, client, domain and moment.
 ghost use Rattle.std.specs.Prelude.{◌≡◌, not};
 ghost use Rattle.admission.specs.Moves.{may_wait};
 
@@ -11,6 +11,8 @@ pub struct Admitted {
     pub key: u64,
     /// The client's address and, in the low sixteen bits, its port.
     pub client: u64,
+    /// A hash of the domain in which its name lies.
+    pub domain: u64,
     /// The moment since which it is open.
     pub opened: Option<u64>,
 }
@@ -22,6 +24,8 @@ pub struct Held<T> {
     pub key: u64,
     /// The client's address and, in the low sixteen bits, its port.
     pub client: u64,
+    /// A hash of the domain in which its name lies.
+    pub domain: u64,
     /// The moment since which it is held.
     pub since: u64,
     /// What it is put in with.

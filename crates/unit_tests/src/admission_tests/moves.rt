@@ -1,4 +1,5 @@
-//! Moves, and what they answer, as values.
+//! Moves, and what they answer, as values. The last digit of a key stands for the domain of its name, and of that a name
+//! was answered where the key is over 99.
 use admission::{Admission, Decision};
 use std::alloc::Allocator;
 
@@ -28,14 +29,27 @@ pub enum Answer {
     Dropped(usize),
 }
 
+/// The domain of a key.
+pub fn domain_of(key: u64) -> u64 {
+    key % 10
+}
+
+/// Whether a name of its domain was answered.
+pub fn is_of_answered(key: u64) -> bool {
+    key > 99
+}
+
 /// Makes the move; the payload of who comes is this one.
 pub fn made<A: Allocator>(admission: &mut Admission<u64, A>, step: Move, payload: u64) -> Answer {
     match step {
-        Move::Admit(key, client, moment) => match admission.admit(key, client, moment, payload) {
-            Decision::In(given) => Answer::In(given),
-            Decision::Waits => Answer::Waits,
-            Decision::Refused(given) => Answer::Refused(given),
-        },
+        Move::Admit(key, client, moment) => {
+            let was_answered = is_of_answered(key);
+            match admission.admit(key, client, domain_of(key), was_answered, moment, payload) {
+                Decision::In(given) => Answer::In(given),
+                Decision::Waits => Answer::Waits,
+                Decision::Refused(given) => Answer::Refused(given),
+            }
+        }
         Move::Opened(key, client, moment) => {
             admission.opened(key, client, moment);
             Answer::Done

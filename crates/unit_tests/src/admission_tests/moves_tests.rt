@@ -12,6 +12,7 @@ const SMALL: Limits = Limits {
     each: 3,
     places: 6,
     reserve: 2,
+    answered: 0,
     waiting: 2,
 };
 
@@ -21,6 +22,7 @@ const WIDE: Limits = Limits {
     each: 4,
     places: 6,
     reserve: 0,
+    answered: 0,
     waiting: 2,
 };
 
@@ -29,7 +31,22 @@ const OF_A_FRONT: Limits = Limits {
     each: 6,
     places: 6,
     reserve: 0,
+    answered: 0,
     waiting: 2,
+};
+
+const OF_EIGHT: Limits = Limits {
+    equal: 2,
+    each: 8,
+    places: 8,
+    reserve: 0,
+    answered: 0,
+    waiting: 2,
+};
+
+const WITH_ANSWERED: Limits = Limits {
+    answered: 2,
+    ..OF_EIGHT
 };
 
 // Clients: of addresses 1 to 7, at port 9.
@@ -131,6 +148,36 @@ const FRONT: [Row; 7] = [
     (Admit(7, A, 0), Refused(6)),
 ];
 
+// A domain has three times as many queries as places are free, and no more, whoever asks.
+const DOMAIN: [Row; 12] = [
+    (Admit(11, A, 0), In(0)),
+    (Admit(21, A, 0), In(1)),
+    (Admit(31, A, 0), In(2)),
+    (Admit(41, B, 0), In(3)),
+    (Admit(51, C, 0), In(4)),
+    (Admit(61, D, 0), In(5)),
+    (Admit(71, E, 0), Refused(6)),
+    (Admit(2, E, 0), In(7)),
+    (Settled(11, A), Done),
+    (Admit(71, E, 0), In(9)),
+    (Admit(81, A, 0), Refused(10)),
+    (Admit(3, F, 0), In(11)),
+];
+
+// The last two of eight places go to domains of which a name was answered, whose keys are over 99.
+const ANSWERED: [Row; 10] = [
+    (Admit(1, A, 0), In(0)),
+    (Admit(2, B, 0), In(1)),
+    (Admit(3, C, 0), In(2)),
+    (Admit(4, D, 0), In(3)),
+    (Admit(5, E, 0), In(4)),
+    (Admit(6, F, 0), In(5)),
+    (Admit(7, G, 0), Refused(6)),
+    (Admit(107, G, 0), In(7)),
+    (Admit(108, A, 0), In(8)),
+    (Admit(109, B, 0), Refused(9)),
+];
+
 // After 12,000 ms an open query leaves, and one that waited for 5,000 ms is dropped. One that enters stays.
 const TIMES: [Row; 13] = [
     (Admit(5, A, 0), In(0)),
@@ -171,6 +218,8 @@ fn each_move(rt: HostRuntime) -> Result<(), test::Fail> {
     }
     assert_eq!(rt; first_wrong(rt.alloc(), WIDE, &SHARE)?, None);
     assert_eq!(rt; first_wrong(rt.alloc(), OF_A_FRONT, &FRONT)?, None);
+    assert_eq!(rt; first_wrong(rt.alloc(), OF_EIGHT, &DOMAIN)?, None);
+    assert_eq!(rt; first_wrong(rt.alloc(), WITH_ANSWERED, &ANSWERED)?, None);
     Ok(())
 }
 

@@ -1,5 +1,5 @@
 //! The definition in its plainest form: one list of queries, each with what it does, which every call goes through.
-use crate::admission_tests::moves::{Answer, Move};
+use crate::admission_tests::moves::{Answer, Move, domain_of, is_of_answered};
 use admission::{Limits, OPEN_MS, WAIT_MS};
 use memory::Starved;
 use std::alloc::Global;
@@ -67,6 +67,13 @@ impl Plain {
             .count()
     }
 
+    fn of_domain(&self, domain: u64) -> usize {
+        self.queries
+            .iter()
+            .filter(|query| query.stage != Stage::Waiting && domain_of(query.key) == domain)
+            .count()
+    }
+
     // The one of that stage that came to it first: of that key, where one is given, of that client, where one is
     // given, and since that moment or before, where one is given.
     fn first(
@@ -97,13 +104,23 @@ impl Plain {
         payload: u64,
     ) -> Result<Answer, Starved> {
         let from_address = self.of_address(client / 65_536);
+        let in_domain = self.of_domain(domain_of(key));
+        let for_others = if is_of_answered(key) {
+            0
+        } else {
+            self.limits.answered
+        };
         let inside = self.inside();
         let shut = from_address >= self.limits.each
             || inside >= self.limits.places
             || (from_address > 0
                 && inside.saturating_add(self.limits.reserve) >= self.limits.places)
             || (self.limits.each < self.limits.places
-                && from_address.saturating_add(inside) >= self.limits.places);
+                && from_address.saturating_add(inside) >= self.limits.places)
+            || (in_domain / 3)
+                .saturating_add(inside)
+                .saturating_add(for_others)
+                >= self.limits.places;
         let waiting = self.queries.len().saturating_sub(inside);
         let enters = self.of_key(key) < self.limits.equal;
         if shut || (!enters && waiting >= self.limits.waiting) {

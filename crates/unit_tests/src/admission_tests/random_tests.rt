@@ -12,6 +12,7 @@ const SMALL: Limits = Limits {
     each: 4,
     places: 8,
     reserve: 2,
+    answered: 2,
     waiting: 3,
 };
 
@@ -20,9 +21,12 @@ fn below(words: &mut ChaCha8Rng, many: u32) -> u64 {
     u64::from(words.next_u32().checked_rem(many).unwrap_or(0))
 }
 
-// A move with one of four keys, from one of two ports at one of five addresses.
+// A move with one of four keys in each of three domains, from one of two ports at one of five addresses.
 fn drawn(words: &mut ChaCha8Rng, now: u64) -> Move {
-    let key = below(words, 4);
+    let key = below(words, 2)
+        .saturating_mul(100)
+        .saturating_add(below(words, 2).saturating_mul(10))
+        .saturating_add(below(words, 3));
     let client = (below(words, 5).saturating_add(1))
         .saturating_mul(65_536)
         .saturating_add(below(words, 2));

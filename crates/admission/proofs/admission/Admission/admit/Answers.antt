@@ -28,12 +28,12 @@ pub invariant_of-self : goal.invariant_of-self
 invariant_of-self g c =
     let b = c.self.inside in
     let d = state b.limits b.admitted.items b.ready.items b.waiting.items in
-    let q = held c.args.key c.args.client c.args.moment c.args.payload in
+    let q = held c.args.key c.args.client c.args.domain c.args.moment c.args.payload in
     let many : b.limits.equal ≤ of_key c.args.key d = subst (λ s. b.limits.equal ≤ of_key c.args.key s) (sym c.self.view_is) (subst (λ n. b.limits.equal ≤ n) c.of_key.ensures c.if-of_key-self.false) in
-    let open_to : is_shut (address_in c.args.client) d ≡ false = subst (λ s. is_shut (address_in c.args.client) s ≡ false) (sym c.self.view_is) (sym c.is_shut.ensures ∙ c.if-is_shut.false) in
+    let open_to : is_shut (address_in c.args.client) c.args.domain c.args.was_answered d ≡ false = subst (λ s. is_shut (address_in c.args.client) c.args.domain c.args.was_answered s ≡ false) (sym c.self.view_is) (sym c.is_shut.ensures ∙ c.if-is_shut.false) in
     let room : length b.waiting.items < b.limits.waiting = search rules in
     let items : c.push.new.self.items ≡ b.waiting.items ++ q ∷ [] = c.push.ensures.items in (
-      kept_as b.limits b.admitted.items refl (sym items) (kept_waiting d c.self.invariant.0 q many open_to room),
+      kept_as b.limits b.admitted.items refl (sym items) (kept_waiting d c.self.invariant.0 q c.args.was_answered many open_to room),
       search rules,
       search rules,
       search rules,
@@ -43,7 +43,7 @@ pub returns : goal.returns
 returns g c =
     let b = c.self.inside in
     let d = state b.limits b.admitted.items b.ready.items b.waiting.items in
-    let q = held c.args.key c.args.client c.args.moment c.args.payload in
+    let q = held c.args.key c.args.client c.args.domain c.args.moment c.args.payload in
     let l = ap (λ s. s.limits) c.self.view_is in
     let room : length b.waiting.items < b.limits.waiting = search rules in
     let items : c.push.new.self.items ≡ b.waiting.items ++ q ∷ [] = c.push.ensures.items in (

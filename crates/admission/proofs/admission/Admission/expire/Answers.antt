@@ -12,7 +12,7 @@ returns g c =
     let there : position test c.self.inside.admitted.items ≡ Some c.in-Some.place = subst (λ xs. position test xs ≡ Some c.in-Some.place) c.deref.ensures.value (sym c.place_of_late.ensures ∙ c.in-Some.is) in
     let here : position test c.args.self.now.admitted ≡ Some c.in-Some.place = subst (λ s. position test s.admitted ≡ Some c.in-Some.place) c.self.view_is there in
     record {
-      some = sym (ap is_some (found_there test c.args.self.now.admitted c.in-Some.place (admitted 0 0 None) here));
+      some = sym (ap is_some (found_there test c.args.self.now.admitted c.in-Some.place (admitted 0 0 0 None) here));
       left = left_some c.args.self.now test c.in-Some.place c.leave.new.self here c.leave.ensures;
     }
 
