@@ -15,7 +15,7 @@ use Rattle.front.specs.declared.queries.Request.TheVariants as request
 use Rattle.typed.specs.Events.{Parsed}
 use Rattle.typed.specs.Events as typed
 use Rattle.server.specs.Askers.{admission_client}
-use Rattle.server.specs.Keys.{query_key}
+use Rattle.server.specs.Keys.{query_key, domain_key}
 use Rattle.server.specs.declared.passage.Standing.{Standing}
 use Rattle.server.specs.declared.passage.Standing.TheVariants.{Free, Asks, Admitted}
 use Rattle.server.specs.declared.passage.Standing.TheVariants as standing
@@ -23,10 +23,26 @@ use Rattle.server.specs.declared.shared_admission.Question.{Question}
 use Rattle.server.specs.declared.query.Asker.{Asker}
 use Rattle.server.specs.declared.query.Query.{Query}
 
--- A query asks for admission, under the key of what it asks and the number of its client. What is no query needs none.
+-- Whether a question that asks is said to be of a domain of which a name was answered.
+abbrev pub answered_in : Standing → Bool
+answered_in (Asks question) = question.was_answered
+answered_in Free = false
+answered_in (Admitted question) = false
+answered_in standing.Held = false
+answered_in standing.Dropped = false
+answered_in standing.Unseen = false
+
+-- A query asks for admission, under the key of what it asks, the number of its client and the domain of its name, of
+-- which a name was answered or not. What is no query needs none.
 abbrev pub IsStanding : DefaultHasher → Parsed → Standing → Type 0
 IsStanding start (typed.Client now client way (request.Query query)) standing =
-    standing ≡ Asks (record { key = query_key start query; client = admission_client way client })
+    standing
+    ≡ Asks (record {
+      key = query_key start query;
+      client = admission_client way client;
+      domain = domain_key start query.name;
+      was_answered = answered_in standing;
+    })
 IsStanding start (typed.Client now client way request.Drop) standing = standing ≡ Free
 IsStanding start (typed.Client now client way (request.Refuse why begins echo)) standing = standing ≡ Free
 IsStanding start (typed.Datagram now sock from reading) standing = standing ≡ Free
@@ -46,6 +62,7 @@ is_passed (Admitted question) = true
 is_passed (Asks question) = false
 is_passed standing.Held = false
 is_passed standing.Dropped = false
+is_passed standing.Unseen = false
 
 -- Whether a query of these bytes, with this key, has over 512 of them and would have to wait.
 abbrev pub is_too_long : State Query → ℕ → List ℕ → Bool
@@ -66,7 +83,7 @@ query_by (decision.Refused query) = Some query
 -- Admission decided so on a question that came at this moment in that query.
 pub record IsAsked (before : State Query) (question : Question) (moment : ℕ) (query : Query) (stands : Standing) (here : Option Query) (after : State Query) : Type 0 where
   pub decision : Decision Query
-  pub admits : Admits before question.key question.client moment query decision after
+  pub admits : Admits before question.key question.client question.domain question.was_answered moment query decision after
   pub stands_so : stands ≡ standing_by question decision
   pub here_so : here ≡ query_by decision
 
@@ -84,15 +101,19 @@ is_here (Asks question) = true
 is_here (Admitted question) = true
 is_here standing.Held = false
 is_here standing.Dropped = true
+is_here standing.Unseen = true
 
--- How a question stands by what admission decided. One that is dropped may be free where the machine holds its answer:
--- its step asks no server, so that it needs no place.
+-- How a question stands by what admission decided. One that is dropped is free in place of that where the machine holds
+-- its answer: its step asks no server, so that it needs no place. It is dropped where the machine does not hold it, or no
+-- memory is left to see that.
 abbrev pub IsLetBy : Type 0 → Standing → Standing → Type 0
 IsLetBy holds Free stands = stands ≡ Free
 IsLetBy holds (Asks question) stands = stands ≡ Asks question
 IsLetBy holds (Admitted question) stands = stands ≡ Admitted question
 IsLetBy holds standing.Held stands = stands ≡ standing.Held
-IsLetBy holds standing.Dropped stands = (stands ≡ standing.Dropped) ⊎ (holds × (stands ≡ Free))
+IsLetBy holds standing.Dropped stands =
+    (holds × (stands ≡ Free)) ⊎ (((holds → ⊥) × (stands ≡ standing.Dropped)) ⊎ (stands ≡ standing.Unseen))
+IsLetBy holds standing.Unseen stands = stands ≡ standing.Unseen
 
 -- What admission is told of a message whose step was taken, and asked a server or not: a question that asked one is
 -- open since that moment, and any other leaves.
@@ -103,6 +124,7 @@ told Free asks moment d = d
 told (Asks question) asks moment d = d
 told standing.Held asks moment d = d
 told standing.Dropped asks moment d = d
+told standing.Unseen asks moment d = d
 
 -- Why a reply is a SERVFAIL, where it is one.
 abbrev pub cause_in : {A : Type 0} → Action A → Option Cause

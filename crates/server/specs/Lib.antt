@@ -7,6 +7,7 @@ pub mod Faults
 pub mod Addresses
 pub mod Waits
 pub mod Askers
+pub mod Domains
 pub mod Keys
 pub mod Entries
 pub mod Tallies

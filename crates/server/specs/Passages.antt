@@ -11,7 +11,7 @@ use Rattle.typed.specs.declared.action.TypedAction.TheVariants.{Reply, Refusal, 
 use Rattle.typed.specs.declared.action.TypedActions.{TypedActions}
 use Rattle.admission.specs.States.{State}
 use Rattle.server.specs.declared.passage.Standing.{Standing}
-use Rattle.server.specs.declared.passage.Standing.TheVariants.{Free, Asks, Admitted, Held, Dropped}
+use Rattle.server.specs.declared.passage.Standing.TheVariants.{Free, Asks, Admitted, Held, Dropped, Unseen}
 use Rattle.server.specs.declared.query.Query.{Query}
 use Rattle.server.specs.declared.shared_admission.Question.{Question}
 use Rattle.server.specs.Entries.{StandsBy, IsLetBy}
@@ -80,6 +80,7 @@ module _ {O : Type 0} where
   Enters holds (Admitted question) before p q after = IsUnchanged before p q after
   Enters holds Held before p q after = IsUnchanged before p q after
   Enters holds Dropped before p q after = IsUnchanged before p q after
+  Enters holds Unseen before p q after = IsUnchanged before p q after
 
 module _ {S O : Type 0} (moves : S → Parsed → Result O Starved → S → Type 0) (begins : S → Type 0) where
   -- The newest step of some history of the machine, on what was read, gave this.

@@ -141,10 +141,17 @@ impl<M: Answering<Event = TypedEvent, Out = TypedActions>, L: Ledger> Context<'_
         let Held {
             key,
             client,
+            domain,
             since,
             payload,
         } = held;
-        let question = Question { key, client };
+        // It was admitted, so that nobody asks any more whether its domain was answered.
+        let question = Question {
+            key,
+            client,
+            domain,
+            was_answered: false,
+        };
         let moment = self.common.moment(rt);
         if !self.join(worker, moment, payload, Some(question), since) {
             self.common.admission.settle(rt, question);
@@ -198,6 +205,10 @@ impl<M: Answering<Event = TypedEvent, Out = TypedActions>, L: Ledger> Context<'_
             }
             Standing::Dropped => {
                 self.common.ends.count(Outcome::Dropped(1));
+                false
+            }
+            Standing::Unseen => {
+                self.common.ends.count(Outcome::MemoryRefused);
                 false
             }
             _ => self.write_out(rt, worker, passage),

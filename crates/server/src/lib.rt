@@ -29,12 +29,14 @@
 //! ```
 #![tactic(auto)]
 
+mod answered;
 mod batch;
 mod client_stream;
 mod clock;
 mod context;
 mod crowd;
 mod datagrams;
+mod domain;
 mod ends;
 mod fault;
 mod framed_stream;

@@ -1,6 +1,6 @@
 //! Clients' messages on their way through the machine: each is read before the lock is taken, its step is taken while
 //! it is held, and what that gives is written behind it.
-ghost use Rattle.std.specs.Prelude.{◌≡◌, true, Some, None, IfOk, IfSome, IfNone, MatchOption, OnOk, IfErr};
+ghost use Rattle.std.specs.Prelude.{◌≡◌, ◌↔◌, true, IsTrue, Some, None, IfOk, IfSome, IfNone, MatchOption, OnOk, IfErr};
 ghost use Rattle.std.specs.Bool.{OnTrue};
 ghost use Rattle.runs.specs.States.{Client, told_moment};
 ghost use Rattle.events.specs.Views.{event_view};
@@ -39,6 +39,8 @@ pub(crate) enum Standing {
     Held,
     /// It was dropped.
     Dropped,
+    /// It was dropped, and no memory was left to see whether the machine holds its answer.
+    Unseen,
 }
 
 // Whether a query is too long to be held where it would have to wait.
@@ -62,24 +64,27 @@ fn stand(
     if is_too_long(admission, question.key, &query) {
         return (Standing::Dropped, Some(query));
     }
-    match admission.admit(question.key, question.client, moment, query) {
+    let Question {
+        key,
+        client,
+        domain,
+        was_answered,
+    } = question;
+    match admission.admit(key, client, domain, was_answered, moment, query) {
         Decision::In(query) => (Standing::Admitted(question), Some(query)),
         Decision::Waits => (Standing::Held, None),
         Decision::Refused(query) => (Standing::Dropped, Some(query)),
     }
 }
 
-// Whether the machine holds the answer to what was read. Where memory is refused, that is not known.
-fn is_held<M: Answering<Event = TypedEvent, Out = TypedActions>, L: Ledger>(
+// Whether the machine holds the answer to what was read. None where memory is refused.
+fn holds<M: Answering<Event = TypedEvent, Out = TypedActions>, L: Ledger>(
     book: &Book<M, L>,
     parsed: &TypedEvent,
-) -> bool
-    ensures { OnTrue result (M.has_answer book.now.state parsed.now) }
+) -> Option<bool>
+    ensures { IfSome result (λ held. IsTrue held ↔ M.has_answer book.now.state parsed.now) }
 {
-    match M::holds(book.state(), parsed) {
-        Ok(held) => held,
-        Err(_) => false,
-    }
+    M::holds(book.state(), parsed).ok()
 }
 
 // How a question stands by what admission decided. One that is dropped is free where the machine holds its answer: its
@@ -93,13 +98,11 @@ fn let_by<M: Answering<Event = TypedEvent, Out = TypedActions>, L: Ledger>(
     ensures here { OnTrue (is_passed result) (is_here decided ≡ true) }
 {
     match decided {
-        Standing::Dropped => {
-            if is_held(book, parsed) {
-                Standing::Free
-            } else {
-                Standing::Dropped
-            }
-        }
+        Standing::Dropped => match holds(book, parsed) {
+            Some(true) => Standing::Free,
+            Some(false) => Standing::Dropped,
+            None => Standing::Unseen,
+        },
         _ => decided,
     }
 }
@@ -219,7 +222,7 @@ impl<M: Machine<Event = TypedEvent, Out = TypedActions>> Passage<M> {
     pub fn settle(&self, admission: &mut Admission<Query>)
         ensures { IfSome self.now.event (λ e. admission.new ≡ told self.now.standing (asks_server self.now.given) (told_moment e) admission.old) }
     {
-        if let Standing::Admitted(Question { key, client }) = self.standing {
+        if let Standing::Admitted(Question { key, client, .. }) = self.standing {
             if self.asks() {
                 admission.opened(key, client, self.moment);
             } else {

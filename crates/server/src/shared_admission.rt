@@ -4,14 +4,16 @@ ghost use Rattle.std.specs.Char.{to_ascii_lowercase};
 ghost use Rattle.events.specs.Views.{action_view};
 ghost use Rattle.typed.specs.Views.{parsed_view};
 ghost use Rattle.server.specs.Askers.{admission_client};
-ghost use Rattle.server.specs.Keys.{key_of, query_key, IsKeyIn};
+ghost use Rattle.server.specs.Keys.{key_of, query_key, domain_key, IsKeyIn};
 ghost use Rattle.server.specs.Entries.{IsFailureFor, IsStanding, failure_copy};
 
+use crate::answered::AnsweredDomains;
+use crate::domain::domain_of;
 use crate::passage::Standing;
 use crate::query::{Asker, Query, asker_of};
 use admission::{Admission, Held, Limits, PLACES};
 use dispatch::{bytes_of, failure_for, is_failure, question_end};
-use dname::LONGEST_NAME;
+use dname::{LONGEST_NAME, Name};
 use events::{Action, Bytes};
 use front::Request;
 use std::alloc::Global;
@@ -29,11 +31,14 @@ const TYPE_AND_CLASS: usize = 4;
 // The class IN, as it stands in a message (RFC 1035, section 3.2.4).
 const IN: [u8; 2] = [0, 1];
 
-/// A question in admission: a hash of what is asked, and the number under which its client is counted there.
+/// A question in admission: a hash of what is asked, the number under which its client is counted there, a hash of the
+/// domain in which the name lies, and whether a name of that was answered.
 #[derive(Clone, Copy)]
 pub(crate) struct Question {
     pub key: u64,
     pub client: u64,
+    pub domain: u64,
+    pub was_answered: bool,
 }
 
 // The failure of a query, with these bytes, as the reply to an equal one.
@@ -74,6 +79,7 @@ pub(crate) struct SharedAdmission {
     start: DefaultHasher,
     // Whether someone may have been called in.
     called: AtomicBool,
+    answered: AnsweredDomains,
 }
 
 impl SharedAdmission {
@@ -87,6 +93,7 @@ impl SharedAdmission {
             admission: Mutex::new(admission),
             start,
             called: AtomicBool::new(false),
+            answered: AnsweredDomains::new(alloc).ok()?,
         })
     }
 
@@ -134,6 +141,7 @@ impl SharedAdmission {
     fn question(&self, asker: Asker, query: &front::Query) -> Question
         ensures key { result.key ≡ query_key self.now.start query.now }
         ensures client { result.client ≡ admission_client asker.way asker.client }
+        ensures domain { result.domain ≡ domain_key self.now.start query.now.name }
     {
         let [high, low] = query.kind.number().to_be_bytes();
         let key = self.key_of(
@@ -141,10 +149,22 @@ impl SharedAdmission {
             [high, low, IN[0], IN[1]],
             u8::from(query.start.wants_recursion()),
         );
+        let domain = self.domain_of(&query.name);
         Question {
             key,
             client: asker.admission_client(),
+            domain,
+            was_answered: self.answered.has(domain),
         }
+    }
+
+    // A hash of the domain in which a name lies.
+    fn domain_of(&self, name: &Name) -> u64
+        ensures { result ≡ domain_key self.now.start name.now }
+    {
+        let mut hasher = self.start;
+        hasher.write(domain_of(name).wire());
+        hasher.finish()
     }
 
     /// How a message that was read stands in admission: each query asks for it, and nothing else does.
@@ -175,21 +195,30 @@ impl SharedAdmission {
 
     /// The step of a question was lost.
     pub fn settle<R: Wait>(&self, rt: &R, question: Question) {
-        let Question { key, client } = question;
+        let Question { key, client, .. } = question;
         let mut admission = self.admission.lock(rt);
         admission.settled(key, client);
         self.note_called(&admission);
     }
 
-    /// Another step gave this. Where it is a reply to a client, its question is no longer open.
+    /// Another step gave this. Where it is a reply to a client, its question is no longer open, and what came of its
+    /// domain is known.
     pub fn other_stepped<R: Wait>(&self, rt: &R, action: &Action) {
+        let reply = bytes_of(action).as_slice();
         if let Some(asker) = asker_of(action)
-            && let Some(key) = self.key_in(bytes_of(action).as_slice())
+            && let Some(key) = self.key_in(reply)
+            && let Some(domain) = self.close(rt, key, asker)
         {
-            let mut admission = self.admission.lock(rt);
-            admission.closed(key, asker.admission_client());
-            self.note_called(&admission);
+            self.answered.learn(domain, reply);
         }
+    }
+
+    // The question with this key of that client is no longer open; its domain, if it was.
+    fn close<R: Wait>(&self, rt: &R, key: u64, asker: Asker) -> Option<u64> {
+        let mut admission = self.admission.lock(rt);
+        let domain = admission.closed(key, asker.admission_client());
+        self.note_called(&admission);
+        domain
     }
 
     /// Puts the flag up where someone is called in, while admission is held: most answers call in nobody, and then no
