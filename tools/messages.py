@@ -3,6 +3,7 @@
 import socket
 import struct
 import threading
+import time
 
 # Seconds in which anything at all has to happen.
 PATIENCE = 10
@@ -19,6 +20,19 @@ def name(text):
 def query(number, owner, kind=A, flags=0x0100):
     """A query, with RD where nothing else is said."""
     return struct.pack(">6H", number & 0xFFFF, flags, 1, 0, 0, 0) + name(owner) + struct.pack(">2H", kind, 1)
+
+
+def query_by_pointer(number, owner):
+    """A query whose name ends with a pointer to a zero of the header, in its count of questions (RFC 1035, 4.1.4)."""
+    plain = query(number, owner)
+    return plain[:-5] + b"\xc0\x04" + plain[-4:]
+
+
+def long_query(number, owner):
+    """A query with a record of EDNS behind it, which has 600 bytes of padding."""
+    plain = query(number, owner)
+    padding = struct.pack(">HH", 12, 600) + bytes(600)
+    return plain[:10] + b"\0\1" + plain[12:] + b"\0" + struct.pack(">HHIH", 41, 1232, 0, len(padding)) + padding
 
 
 def question_of(message):
@@ -79,6 +93,26 @@ def next_frame(stream):
     if found[1:] or behind:
         raise OSError(f"{len(data)} in place of {2 + len(found[0])}")
     return found[0]
+
+
+def frames_on(stream, count):
+    """The frames that come on a stream, by their ID: so many, or all until it ends."""
+    data, seen = b"", {}
+    while len(seen) < count:
+        more = stream.recv(65_537)
+        if not more:
+            break
+        found, data = frames_in(data + more)
+        seen.update((number_of(one), one) for one in found)
+    return seen
+
+
+def send_all(questions):
+    """Sends the names of these clients, under their places, and waits after every hundred, so that none is lost."""
+    for place, (client, owner) in enumerate(questions):
+        client.send(query(place, owner))
+        if place % 100 == 99:
+            time.sleep(0.005)
 
 
 def datagrams(address, source=None, patience=PATIENCE):
