@@ -99,29 +99,6 @@ wild_some soa q t n rs e = wild_said soa q t (at n rs) (at_some n rs e)
 pub wild_none : (soa : Record) (q : List (List ℕ)) (t : ℕ) (n : List (List ℕ)) (rs : List Record) → list_any (is_owned n) rs ≡ false → NxDomain soa ≡ said_wild soa q t (at n rs)
 wild_none soa q t n rs e = ap (said_wild soa q t) (sym (at_none n rs e))
 
--- A step of a walk that adds what it picks.
-module _ {X : Type 0} (add : X → Record → X) (p : Record → Bool) where
-  add_one : (b : Bool) (kept : X) (r : Record) (rest : List Record) → fold add kept (cond b (r ∷ rest) rest) ≡ fold add (cond b (add kept r) kept) rest
-  add_one true kept r rest = refl
-  add_one false kept r rest = refl
-
-  add_last : (b : Bool) (kept : X) (r : Record) → fold add kept (cond b (r ∷ []) []) ≡ cond b (add kept r) kept
-  add_last true kept r = refl
-  add_last false kept r = refl
-
-  added_on : (kept : X) (xs : List Record) (r : Record) → fold add kept (filter p (xs ++ r ∷ [])) ≡ cond (p r) (add (fold add kept (filter p xs)) r) (fold add kept (filter p xs))
-  added_on kept [] r = add_last (p r) kept r
-  added_on kept (x ∷ xs) r =
-      add_one (p x) kept x (filter p (xs ++ r ∷ []))
-      ∙ (added_on (cond (p x) (add kept x) kept) xs r ∙ ap (λ (l : X). cond (p r) (add l r) l) (sym (add_one (p x) kept x (filter p xs))))
-
-  pub fold_more : (kept : X) (rs : List Record) (old new : X) (i : ℕ) (r : Record) (b : Bool) → i < length rs → r ≡ get_or rs i r → old ≡ fold add kept (filter p (take i rs)) → b ≡ p r
-      → new ≡ cond b (add old r) old → new ≡ fold add kept (filter p (take (i + 1) rs))
-  fold_more kept rs old new i r b lt at_i eo eb en =
-      en ∙ (ap (λ (c : Bool). cond c (add old r) old) eb
-      ∙ (ap (λ (l : X). cond (p r) (add l r) l) eo
-      ∙ (sym (added_on kept (take i rs) r) ∙ ap (λ (l : List Record). fold add kept (filter p l)) (ap (λ (x : Record). take i rs ++ x ∷ []) at_i ∙ sym (take_more rs i r lt)))))
-
 -- A step of the walk over the servers.
 fold_on : (kept xs ys : List Record) → fold add_glue kept (xs ++ ys) ≡ fold add_glue (fold add_glue kept xs) ys
 fold_on kept [] ys = refl

@@ -15,13 +15,14 @@ use Rattle.rdata.specs.declared.data.RData.{RData}
 use Rattle.zone.specs.Tree.{has_under}
 use Rattle.zone.specs.Zones.{Zone}
 use Rattle.zone.specs.declared.tree.Stand.{Stand}
-use Rattle.zone.specs.Look.{is_owned, is_type, at, add_new, firsts, with_owner}
+use Rattle.zone.specs.Look.{is_owned, is_type, of_type, at, add_new, firsts, with_owner}
 use Rattle.zone.specs.Ruled.{HasOneTtl}
 use Rattle.zone.proofs.LawLists.{first_in, later_in, filter_of, find_of}
 use Rattle.authority.specs.Climb.{is_picked}
-use Rattle.authority.specs.Values.{add_value, values_of, AreTimed, AreTimedIn, IsTimed}
+use Rattle.zone.specs.Values.{add_value, values_of}
+use Rattle.authority.specs.Values.{AreTimed, AreTimedIn, IsTimed, IsFirst}
 use Rattle.authority.specs.Walk.{Stands, near_or, wild_of}
-use Rattle.authority.proofs.Picks.{none_picked, fold_more}
+use Rattle.authority.proofs.Picks.{none_picked}
 
 abbrev HaveTtl : ℕ → List Record → Type 0
 HaveTtl t rs = (r : Record) → Contains rs r → r.ttl ≡ t
@@ -87,21 +88,31 @@ module _ (p : Record → Bool) where
       let some : 0 < length (map datum vs) = filled q f.ttl (filter p rs) (map datum vs) (some_pass rs f (sym ef)) (set_is q rs f (map datum vs) h e) in
       omega (arith, many, some)
 
+  pub has_data : (q : List (List ℕ)) (rs : List Record) (f : Record) (ds : List Datum) → HaveTtl f.ttl (filter p rs) → Some f ≡ find p rs → ds ≡ values_of (filter p rs) → 0 < length ds
+  has_data q rs f ds h ef e = filled q f.ttl (filter p rs) ds (some_pass rs f (sym ef)) (set_is q rs f ds h e)
+
   -- The same of a set whose owner and TTL are copies.
   pub named_set : (q : List (List ℕ)) (rs : List Record) (f : Record) (o : List (List ℕ)) (t : ℕ) (ds : List Datum) → o ≡ q → t ≡ f.ttl → HaveTtl f.ttl (filter p rs)
       → ds ≡ values_of (filter p rs) → plain_rows o t ds ≡ firsts (map (with_owner q) (filter p rs))
   named_set q rs f o t ds eo et h e = (λ i. plain_rows (eo i) (et i) ds) ∙ set_is q rs f ds h e
 
-  -- A step of the walk over the records.
-  pub value_more : (rs : List Record) (old new : List Datum) (i : ℕ) (r : Record) (d : Datum) (b : Bool) → i < length rs → r ≡ get_or rs i r → b ≡ p r → d ≡ r.value → old ≡ values_of (filter p (take i rs))
-      → new ≡ cond b (add_datum old d) old → new ≡ values_of (filter p (take (i + 1) rs))
-  value_more rs old new i r d b lt at_i eb ed eo en =
-      fold_more add_value p [] rs old new i r b lt at_i eo eb (en ∙ ap (λ (e : Datum). cond b (add_datum old e) old) ed)
-
 pub some_rows : {H : Type 0} (q : List (List ℕ)) (t : ℕ) (vs : List (RData H)) (ds : List Datum) → 0 < length vs → ds ≡ map datum vs → plain_rows q t ds ≡ [] → ⊥
 some_rows q t [] ds h e none = omega (arith, h)
 some_rows q t (v ∷ vs) [] h e none = cc
 some_rows q t (v ∷ vs) (d ∷ ds) h e none = cc
+
+pub rows_some : (q : List (List ℕ)) (t : ℕ) (ds : List Datum) → 0 < length ds → plain_rows q t ds ≡ [] → ⊥
+rows_some q t [] h none = omega (arith, h)
+rows_some q t (d ∷ ds) h none = cc
+
+-- The record at the place of the first one of a type, and the data of its set.
+pub first_is : (p : Record → Bool) (rs : List Record) (i : ℕ) (f : Record) → IsFirst p rs i → f ≡ get_or rs i f → Some f ≡ find p rs
+first_is p rs i f first here = ap Some here ∙ sym (first.found f)
+
+pub values_are : (t : ℕ) (rs : List Record) (i : ℕ) (f : Record) (ds : List Datum) → IsFirst (is_type t) rs i → f ≡ get_or rs i f → ((r : Record) → ds ≡ values_of (of_type (type_of (get_or rs i r).value) rs)) → ds ≡ values_of (of_type t rs)
+values_are t rs i f ds first here e =
+    let passes = (find_of (is_type t) rs f (sym (first_is (is_type t) rs i f first here))).1 in
+    e f ∙ ap (λ (n : ℕ). values_of (of_type n rs)) (ap (λ (x : Record). type_of x.value) (sym here) ∙ eqb-true (type_of f.value) t passes)
 
 -- All of a type at a name have the TTL of the first.
 pub timed_picked : (n : List (List ℕ)) (t : ℕ) (z : Zone) (f : Record) → HasOneTtl z → Some f ≡ find (is_picked n t) z.records → HaveTtl f.ttl (filter (is_picked n t) z.records)

@@ -1,17 +1,9 @@
--- The data of a set while it is made, and the TTLs of its records.
-use Rattle.std.specs.Prelude.{◌≡◌, Option, Some, None, List, [], fold, Contains}
-use Rattle.rdata.specs.Data.{Datum, type_of}
-use Rattle.rdata.specs.Gathering.{add_datum}
+-- The TTLs of the records of sets, and which record of a type is the first.
+use Rattle.std.specs.Prelude.{◌≡◌, ◌<◌, ℕ, Bool, Option, Some, None, List, [], length, find, get_or, Contains}
+use Rattle.rdata.specs.Data.{type_of}
 use Rattle.rdata.specs.Records.{Record}
 use Rattle.zone.specs.declared.tree.Stand.{Stand}
 use Rattle.zone.specs.Ruled.{HasOneTtl}
-
-abbrev pub add_value : List Datum → Record → List Datum
-add_value ds r = add_datum ds r.value
-
--- The data of records, each once, in order.
-abbrev pub values_of : List Record → List Datum
-values_of rs = fold add_value [] rs
 
 -- Records of one owner and type have one TTL (RFC 2181, section 5.2).
 abbrev pub HaveOneTtl : List Record → Type 0
@@ -30,3 +22,8 @@ AreTimedIn (Some rs) = AreTimed rs
 abbrev pub IsTimed : {H : Type 0} → Option (Stand H) → Type 0
 IsTimed None = Unit {0}
 IsTimed (Some s) = AreTimed s.own
+
+-- The first of the records that pass a test stands there.
+pub record IsFirst (p : Record → Bool) (rs : List Record) (i : ℕ) : Type 0 where
+  pub inside : i < length rs
+  pub found : (r : Record) → find p rs ≡ Some (get_or rs i r)

@@ -7,7 +7,8 @@ ghost use Rattle.rdata.specs.Later.{AreFound};
 ghost use Rattle.rdata.specs.Rows.{in_set};
 ghost use Rattle.zone.specs.Look.{firsts, with_owner};
 ghost use Rattle.authority.specs.Climb.{target, picked};
-ghost use Rattle.authority.specs.Values.{values_of, HaveOneTtl};
+ghost use Rattle.zone.specs.Values.{values_of};
+ghost use Rattle.authority.specs.Values.{HaveOneTtl};
 
 use crate::plain::{Whose, answers, first_of};
 use dname::Name;

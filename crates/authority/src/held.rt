@@ -1,40 +1,21 @@
 //! The answer of the records of one name.
-ghost use Rattle.std.specs.Prelude.{◌≡◌, ◌≢◌, [], find, map, IfOk, IfSome};
+ghost use Rattle.std.specs.Prelude.{◌≡◌, ◌≢◌, [], None, find, map, IfOk, IfSome, MatchOption};
 ghost use Rattle.std.specs.List.{list_any};
 ghost use Rattle.std.specs.Option.{option_copied};
-ghost use Rattle.rdata.specs.Kept.{datum};
 ghost use Rattle.rdata.specs.Rows.{in_set};
 ghost use Rattle.rdata.specs.Types.{type_number};
 ghost use Rattle.zone.specs.Zones.{cname_type};
 ghost use Rattle.zone.specs.Look.{is_type, of_type, firsts, with_owner, said, said_alias, said_wild};
 ghost use Rattle.zone.specs.Views.{link_view};
-ghost use Rattle.authority.specs.Values.{values_of, AreTimed};
+ghost use Rattle.authority.specs.Values.{AreTimed, IsFirst};
 
-use crate::gather::{owned_by, put_wanted};
+use crate::gather::owned_by;
 use crate::plain::is_kind;
 use dname::Name;
 use memory::{Heap, Starved};
-use rdata::{RData, RType, Record, RecordSet, Values};
+use rdata::{RType, Record, RecordSet};
 use std::alloc::Allocator;
-use std::collections::BTreeSet;
 use zone::{Held, Link};
-
-// The data of a type among these records, each once.
-fn values_of<A: Heap>(
-    alloc: A,
-    held: &Held<'_, A>,
-    kind: RType,
-) -> Result<Vec<RData<A>, A>, Starved>
-    ensures { IfOk result (λ v. map datum v.items ≡ values_of (of_type (type_number kind) held.now)) }
-{
-    let mut values = Vec::with_capacity(alloc, held.len())?;
-    let mut later = BTreeSet::new(alloc);
-    for index in 0..held.len() {
-        let rr = held.get(index);
-        put_wanted(&mut values, &mut later, rr, is_kind(rr, kind))?;
-    }
-    Ok(values)
-}
 
 // The set of a type of these records, each record once, with `owner` as owner.
 pub(crate) fn set_of<A: Heap>(
@@ -47,31 +28,36 @@ pub(crate) fn set_of<A: Heap>(
     ensures value { IfOk result (λ set. in_set set ≡ firsts (map (with_owner owner.now) (of_type (type_number kind) held.now))) }
     ensures some { IfOk result (λ set. IfSome set (λ rs. rs ≢ [])) }
 {
-    match first_of(held, kind) {
+    match place_of(held, kind) {
         None => Ok(None),
-        Some(first) => {
-            let items = values_of(alloc, held, kind)?;
-            let values = Values::new(alloc, items)?;
-            Ok(Some(RecordSet {
-                owner: owner.clone()?,
-                ttl: first.ttl,
-                values,
-            }))
+        Some(first) => Ok(Some(RecordSet {
+            owner: owner.clone()?,
+            ttl: held.get(first).ttl,
+            values: held.values(alloc, first)?,
+        })),
+    }
+}
+
+// At which index of these records the first of a type stands.
+fn place_of<A: Allocator>(held: &Held<'_, A>, kind: RType) -> Option<usize>
+    ensures { MatchOption result (find (is_type (type_number kind)) held.now ≡ None) (IsFirst (is_type (type_number kind)) held.now) }
+{
+    for index in 0..held.len() {
+        if is_kind(held.get(index), kind) {
+            return Some(index);
         }
     }
+    None
 }
 
 // The first of these records that has the type.
 fn first_of<'a, A: Allocator>(held: &Held<'a, A>, kind: RType) -> Option<&'a Record<A>>
     ensures { option_copied result ≡ find (is_type (type_number kind)) held.now }
 {
-    for index in 0..held.len() {
-        let rr = held.get(index);
-        if is_kind(rr, kind) {
-            return Some(rr);
-        }
+    match place_of(held, kind) {
+        Some(index) => Some(held.get(index)),
+        None => None,
     }
-    None
 }
 
 // Whether one of these records is of that type.

@@ -13,15 +13,16 @@ use zone::Zone;
 /// Where the answer is known from.
 #[derive(Clone, Copy)]
 pub enum Known {
-    /// A local zone: one address.
-    Zone,
+    /// A local zone: so many addresses.
+    Zone(u8),
     /// The cache: so many addresses.
     Cache(u8),
 }
 
 /// The answers that are measured.
-pub const EACH: [Known; 4] = [
-    Known::Zone,
+pub const EACH: [Known; 5] = [
+    Known::Zone(1),
+    Known::Zone(20),
     Known::Cache(1),
     Known::Cache(3),
     Known::Cache(20),
@@ -30,17 +31,27 @@ pub const EACH: [Known; 4] = [
 impl fmt::Display for Known {
     fn fmt<W: fmt::Write>(&self, f: &mut fmt::Formatter<W>) -> fmt::Result {
         match self {
-            Known::Zone => f.write_str("answer of a local zone"),
+            Known::Zone(count) => write!(f, "answer of {count} by a local zone"),
             Known::Cache(count) => write!(f, "cached answer of {count}"),
         }
     }
 }
 
-// A local zone that has the address of the name, and no other.
-fn example<A: Heap>(alloc: A) -> Result<Vec<Zone<A>, A>, Starved> {
-    let text = "$TTL 300\n@ SOA ns h 1 2 3 4 60\n@ NS ns\nwww A 192.0.2.9\n";
+// The text of a zone in which the name has so many addresses.
+fn text<A: Heap>(alloc: A, count: u8) -> Result<String<A>, Starved> {
+    let mut text = String::new(alloc);
+    text.push_str("$TTL 300\n@ SOA ns h 1 2 3 4 60\n@ NS ns\n")?;
+    for last in 0..count {
+        write!(text, "www A 192.0.2.{last}\n")?;
+    }
+    Ok(text)
+}
+
+// A local zone that has so many addresses of the name, and no other.
+fn example<A: Heap>(alloc: A, count: u8) -> Result<Vec<Zone<A>, A>, Starved> {
+    let text = text(alloc, count)?;
     let origin = name(alloc, "example.")?;
-    let records = masterfile::read(alloc, &origin, text).map_err(|_| Starved)?;
+    let records = masterfile::read(alloc, &origin, text.as_str()).map_err(|_| Starved)?;
     let mut zones = Vec::new(alloc);
     zones.push(Zone::build(origin, records).map_err(|_| Starved)?)?;
     Ok(zones)
@@ -72,7 +83,7 @@ impl Known {
     /// The local zones of a resolver that knows the answer.
     pub fn zones<A: Heap>(self, alloc: A) -> Result<Vec<Zone<A>, A>, Starved> {
         match self {
-            Known::Zone => example(alloc),
+            Known::Zone(count) => example(alloc, count),
             Known::Cache(_) => Ok(Vec::new(alloc)),
         }
     }
@@ -85,7 +96,7 @@ impl Known {
         query: &Event<A>,
     ) -> Result<u64, Starved> {
         match self {
-            Known::Zone => Ok(0),
+            Known::Zone(_) => Ok(0),
             Known::Cache(count) => learn(alloc, core, query, count),
         }
     }

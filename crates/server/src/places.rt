@@ -22,6 +22,10 @@ const STREAMS_IN_A_ROW: u32 = 64;
 // One address has the places over this number, but one at least.
 const SHARES: u16 = 4;
 
+// For how long a stream is left its place whatever its address has, in milliseconds: a question that came with it is read
+// and answered from the cache meanwhile.
+const GRACE_MS: u64 = 5;
+
 /// The streams of clients that are open, and one that has come and has no place yet.
 #[derive(Drop)]
 pub(crate) struct Places {
@@ -175,7 +179,7 @@ impl Places {
 
     // Whether there is a place for a stream of this address. If need be the stream gives way that has been silent
     // longest, of this address where that has its share. To an address that has none gives way one of those that have
-    // the most, two at least, however short its silence.
+    // the most, two at least, as soon as it is silent.
     fn room_for(&mut self, address: Addr, now: u64) -> Room {
         let has = self.count_of(address);
         let whose = match yielder_by(has, self.open.len(), self.most) {
@@ -213,14 +217,15 @@ impl Places {
         found.map(|(key, _)| key)
     }
 
-    // Of the streams whose address has the most, two at least, the one that has been silent longest.
+    // Of the streams whose address has the most, two at least, and that are silent for a while, the one that has been
+    // silent longest.
     fn most_silent_of_most(&self, now: u64) -> Option<usize> {
         let mut found: Option<(usize, usize, u64)> = None;
         for (key, client) in self.open.iter() {
             let (count, silence) = (self.count_of(client.address), client.silence(now));
             let is_next = found.is_none_or(|(_, most, longest)| count > most
                 || (count == most && silence > longest));
-            if count > 1 && is_next {
+            if count > 1 && silence >= GRACE_MS && is_next {
                 found = Some((key, count, silence));
             }
         }

@@ -149,7 +149,7 @@ impl SharedAdmission {
             [high, low, IN[0], IN[1]],
             u8::from(query.start.wants_recursion()),
         );
-        let domain = self.domain_of(&query.name);
+        let domain = self.domain_key(&query.name);
         Question {
             key,
             client: asker.admission_client(),
@@ -159,7 +159,7 @@ impl SharedAdmission {
     }
 
     // A hash of the domain in which a name lies.
-    fn domain_of(&self, name: &Name) -> u64
+    fn domain_key(&self, name: &Name) -> u64
         ensures { result ≡ domain_key self.now.start name.now }
     {
         let mut hasher = self.start;

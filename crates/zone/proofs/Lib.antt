@@ -10,6 +10,8 @@ pub mod LawRules
 pub mod LawTests
 pub mod LawZones
 pub mod Members
+pub mod Picked
+pub mod Shares
 pub mod Trees
 pub mod LawNames
 pub mod Anys

@@ -12,4 +12,5 @@ pub mod Rules
 pub mod Last
 -- Kept: invariants of the code's values, and how contracts see them.
 pub mod Kept
+pub mod Values
 pub mod Views

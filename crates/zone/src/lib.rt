@@ -24,21 +24,24 @@ mod aliases;
 mod cuts;
 mod denial;
 mod fault;
+mod held;
 mod laws;
 mod link;
 mod nodes;
 mod rules;
 mod scan;
+mod sets;
 mod tree;
 mod ttls;
 mod zone;
 
 pub use denial::denial_ttl;
 pub use fault::ZoneError;
+pub use held::Held;
 pub use laws::{
     cut_law, delegated_name_law, encloser_law, existence_law, link_law, local_law, name_error_law,
     one_link_law, own_records_law, zone_keeps_rules, zone_law,
 };
 pub use link::Link;
-pub use tree::{Held, Stand};
+pub use tree::Stand;
 pub use zone::Zone;

@@ -1,52 +1,16 @@
 //! A zone's records by name.
-ghost use Rattle.std.specs.Prelude.{◌≡◌, ◌<◌, false, length, get_or, IfOk, MatchOption};
+ghost use Rattle.std.specs.Prelude.{◌≡◌, false, IfOk, MatchOption};
 ghost use Rattle.zone.specs.Tree.{has_under, IsTree, IsStand};
+ghost use Rattle.zone.specs.Values.{AreSets};
 
+use crate::held::{Held, Sets};
 use crate::nodes::{Nodes, nodes_of};
+use crate::sets::sets_of;
 use dname::Suffix;
 use memory::{Heap, Starved};
 use rdata::{Record, Records};
 use std::alloc::{AllocError, Allocator};
 use std::marker::Model;
-
-/// Some records of a zone's list, borrowed by their places in it. Contracts see the records in order.
-#[derive(Drop)]
-pub struct Held<'a, A: Allocator> {
-    records: &'a [Record<A>],
-    places: &'a [usize],
-}
-
-impl<'a, A: Allocator> Model for Held<'a, A> {
-    ghost use Rattle.std.specs.Prelude.{List, length};
-    ghost use Rattle.rdata.specs.Records.{Record as RecordSpec};
-    ghost use Rattle.zone.specs.Tree.{picks, AreWithin};
-
-    ghost Value = { List RecordSpec };
-
-    ghost view = { λ h. picks h.records.now h.places.now };
-
-    ghost invariant = { λ h. AreWithin (length h.records.now) h.places.now };
-}
-
-impl<'a, A: Allocator> Held<'a, A> {
-    /// How many records there are: 2 at a name that owns two.
-    pub fn len(&self) -> usize
-        ensures { result ≡ length self.now }
-    {
-        self.places.len()
-    }
-
-    /// The record at this index: at 0, the first one of the name.
-    pub fn get(&self, index: usize) -> &'a Record<A>
-        requires { index < length self.now }
-        ensures { result.now ≡ get_or self.now index result.now }
-    {
-        let records = self.records;
-        let places = self.places;
-        let place = places[index];
-        &records[place]
-    }
-}
 
 /// The records of a name that exists, and those of the wildcard right under it.
 #[derive(Drop)]
@@ -57,27 +21,23 @@ pub struct Stand<'a, A: Allocator> {
     pub wild: Held<'a, A>,
 }
 
-// The records of a name and of the wildcard right under it, by these nodes.
+// The records of a name and of the wildcard right under it, by these nodes, and the data of their sets.
 fn stand_at<'a, A: Allocator>(
     nodes: &'a Nodes<A>,
+    sets: &'a Sets<A>,
     records: &'a [Record<A>],
     name: &Suffix<'_>,
 ) -> Option<Stand<'a, A>>
-    requires { IsTree nodes.now records.now }
+    requires nodes { IsTree nodes.now records.now }
+    requires sets { AreSets sets.now records.now }
     ensures { MatchOption result (has_under name.now records.now ≡ false) (λ s. IsStand name.now records.now s.own s.wild) }
 {
     name.well_formed_law();
     match nodes.get(name.wire()) {
         None => None,
         Some(node) => Some(Stand {
-            own: Held {
-                records,
-                places: &node.own,
-            },
-            wild: Held {
-                records,
-                places: &node.wild,
-            },
+            own: Held::of(records, &node.own, sets),
+            wild: Held::of(records, &node.wild, sets),
         }),
     }
 }
@@ -89,18 +49,20 @@ fn stand_at<'a, A: Allocator>(
 pub struct Tree<A: Allocator> {
     records: Records<A>,
     nodes: Nodes<A>,
+    sets: Sets<A>,
 }
 
 impl<A: Allocator> Model for Tree<A> {
     ghost use Rattle.std.specs.Prelude.{List};
     ghost use Rattle.rdata.specs.Records.{Record as RecordSpec};
     ghost use Rattle.zone.specs.Tree.{IsTree};
+    ghost use Rattle.zone.specs.Values.{AreSets};
 
     ghost Value = { List RecordSpec };
 
     ghost view = { λ t. t.records };
 
-    ghost invariant = { λ t. IsTree t.nodes t.records };
+    ghost invariant = { λ t. IsTree t.nodes t.records × AreSets t.sets t.records };
 }
 
 impl<A: Heap> Tree<A> {
@@ -109,7 +71,12 @@ impl<A: Heap> Tree<A> {
         ensures { IfOk result (λ t. t ≡ records) }
     {
         let nodes = nodes_of(alloc, records.as_slice())?;
-        Ok(Tree { records, nodes })
+        let sets = sets_of(alloc, &nodes, records.as_slice())?;
+        Ok(Tree {
+            records,
+            nodes,
+            sets,
+        })
     }
 
     /// The same tree with memory of its own: it has the same records.
@@ -137,6 +104,6 @@ impl<A: Allocator> Tree<A> {
     pub fn stand(&self, name: &Suffix<'_>) -> Option<Stand<'_, A>>
         ensures { MatchOption result (has_under name.now self.now ≡ false) (λ s. IsStand name.now self.now s.own s.wild) }
     {
-        stand_at(&self.nodes, self.records.as_slice(), name)
+        stand_at(&self.nodes, &self.sets, self.records.as_slice(), name)
     }
 }

@@ -1,7 +1,10 @@
+use crate::authority_tests::made::known;
 use authority::{Catalog, CatalogError};
 use memory::{Heap, Starved};
-use rdata::Records;
-use record_fixtures::{Value, name, records};
+use rdata::{RType, Records};
+use record_fixtures::{Value, name, record, records};
+use refusing_alloc::Refusing;
+use std::alloc::Allocator;
 use std::test::Fail;
 use zone::Zone;
 
@@ -76,5 +79,41 @@ fn twins_are_refused(rt: HostRuntime) -> Result<(), Fail> {
     assert_eq!(rt; of_none, None);
     let of_ends = refusal_of_many(rt.alloc(), &["ZONE-0.example"])?;
     assert_eq!(rt; of_ends, Some(CatalogError::Twins));
+    Ok(())
+}
+
+// The zone of `example`, in which `many.example` has twenty addresses.
+fn twenty_addresses<A: Heap>(alloc: A) -> Result<Vec<Zone<A>, A>, Starved> {
+    let mut records = records(
+        alloc,
+        &[
+            ("example", 3600, Value::Soa(60)),
+            ("example", 3600, Value::Ns("ns.example")),
+        ],
+    )?;
+    for last in 0..20_u8 {
+        records.push(record(alloc, ("many.example", 60, Value::A(last)))?)?;
+    }
+    let mut zones = Vec::new(alloc);
+    put_zone(alloc, &mut zones, "example", records)?;
+    Ok(zones)
+}
+
+// How often memory is asked for by a look-up of these addresses.
+fn growths_of_look<B: Allocator>(heap: &Refusing<B>) -> Result<u64, Starved> {
+    let catalog = known(twenty_addresses(heap)?)?;
+    let asked = name(heap, "many.example")?;
+    let before = heap.growths();
+    let local = catalog.look(heap, &asked, RType::A)?;
+    let growths = heap.growths().saturating_sub(before);
+    drop(local);
+    Ok(growths)
+}
+
+// An answer shares the data of its set with the zone, and its name is short.
+#[test]
+fn answers_share_the_sets_of_a_zone(rt: HostRuntime) -> Result<(), Fail> {
+    let heap = Refusing::new(rt.alloc());
+    assert_eq!(rt; growths_of_look(&heap)?, 0);
     Ok(())
 }

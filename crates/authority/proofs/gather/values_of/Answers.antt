@@ -4,8 +4,8 @@ use Rattle.rdata.specs.Kept.{datum}
 use Rattle.rdata.specs.Types.{type_number}
 use Rattle.rdata.proofs.Found.{none_found}
 use Rattle.authority.specs.Climb.{target, is_picked, picked}
-use Rattle.authority.specs.Values.{values_of}
-use Rattle.authority.proofs.SetRows.{value_more}
+use Rattle.zone.specs.Values.{values_of}
+use Rattle.zone.proofs.Picked.{value_more}
 use Rattle.authority.proofs.gather.values_of.Goals as goal
 
 pub loop-rr-init : goal.loop-rr-init

@@ -3,7 +3,7 @@ use Rattle.rdata.specs.Kept.{datum}
 use Rattle.rdata.specs.Later.{AreFound}
 use Rattle.rdata.specs.Types.{type_number}
 use Rattle.authority.specs.Climb.{target, picked}
-use Rattle.authority.specs.Values.{values_of}
+use Rattle.zone.specs.Values.{values_of}
 use Rattle.authority.proofs.gather.values_of.Given as goal
 
 abbrev pub invariant-loop-rr : goal.invariant-loop-rr

@@ -1,7 +1,7 @@
 use Rattle.std.proofs.Common.{◌∙◌, ◌&&◌, true, false, sym}
 use Rattle.rdata.specs.Records.{Record}
 use Rattle.zone.specs.Look.{add_glue, is_owned, is_address}
-use Rattle.authority.proofs.Picks.{fold_more}
+use Rattle.zone.proofs.Picked.{fold_more}
 use Rattle.authority.proofs.plain.put_addresses.Goals as goal
 use Rattle.authority.proofs.plain.put_addresses.Goals.{then-is_address_of+in_ok-put_glue, else-is_address_of}
 

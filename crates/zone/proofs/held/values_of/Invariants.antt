@@ -3,8 +3,8 @@ use Rattle.rdata.specs.Kept.{datum}
 use Rattle.rdata.specs.Later.{AreFound}
 use Rattle.rdata.specs.Types.{type_number}
 use Rattle.zone.specs.Look.{of_type}
-use Rattle.authority.specs.Values.{values_of}
-use Rattle.authority.proofs.held.values_of.Given as goal
+use Rattle.zone.specs.Values.{values_of}
+use Rattle.zone.proofs.held.values_of.Given as goal
 
 abbrev pub invariant-loop-index : goal.invariant-loop-index
 invariant-loop-index g l = record {

@@ -1,6 +1,0 @@
-use Rattle.std.proofs.Common.{length, sym, ◌∙◌, ap}
-use Rattle.zone.proofs.Trees.{picks_length}
-use Rattle.zone.proofs.tree.Held.len.Goals as goal
-
-pub returns : goal.returns
-returns g c = sym (picks_length c.self.inside.records.now c.self.inside.places.now c.self.invariant) ∙ ap length c.self.view_is
