@@ -46,7 +46,7 @@ pub enum Work {
     Steps(OnSteps),
 }
 
-pub const ALL: [Work; 39] = [
+pub const ALL: [Work; 41] = [
     Work::Messages(OnMessages::Decode(1)),
     Work::Messages(OnMessages::See(1)),
     Work::Messages(OnMessages::Encode(1)),
