@@ -1,6 +1,7 @@
 -- What a cache answers to a question, and its entries after each call.
 use Rattle.std.specs.Prelude.{◌≡◌, ◌≢◌, ℕ, min, Bool, true, false, cond, nat_eq, ◌⊎◌, Option, Some, None, List, [], ◌∷◌, map, Contains}
 use Rattle.std.specs.Map.{lookup, remove_entry}
+use Rattle.lru.specs.LruCache.{LruCache, lru_cache}
 use Rattle.dname.specs.Labels.{is_under}
 use Rattle.rdata.specs.Records.{Record, greatest_ttl}
 use Rattle.rdata.specs.Sets.{with_ttl}
@@ -127,6 +128,10 @@ lent a now es = or_else (answer a.name a.kind now es) (error_above a.above now e
 abbrev pub moved : Option (Key × Hit) → List (Key × Hit) → List (Key × Hit)
 moved a es = stores.moved same_key a es
 
+-- What a name's own entries answer that is no alias: its NXDOMAIN, or else the type's link.
+abbrev pub own_end : List (List ℕ) → ℕ → ℕ → List (Key × Hit) → Option (Key × Hit)
+own_end q t now es = or_else (under (error_key q) (set_at now (error_key q) es)) (under (kind_key q t) (set_at now (kind_key q t) es))
+
 -- The entries after a look-up: the one that answers is the first.
 abbrev pub after_look : Question → ℕ → List (Key × Hit) → List (Key × Hit)
 after_look a now es = moved (lent a now es) es
@@ -176,6 +181,13 @@ IsHeld a now es h = (k : Key) × (e : Hit) × Contains es (k, e) × (is_live now
 -- An entry of this key lives.
 abbrev pub Lives : ℕ → List (Key × Hit) → Key → Hit → Type 0
 Lives now es k h = (lookup (same_key k) es ≡ Some h) × (is_live now h ≡ true)
+
+-- A question has this answer, which is no alias, and its entry is the first from then on.
+pub record IsUsed (a : Question) (now : ℕ) (before : LruCache Key Hit) (h : Hit) (after : LruCache Key Hit) : Type 0 where
+  pub found : hit_of (lent a now before.entries) ≡ Some h
+  pub held : IsHeld a now before.entries h
+  pub ends : (r : Record) → h.link ≡ Alias r → ⊥
+  pub moves : after ≡ lru_cache (moved (lent a now before.entries) before.entries) before.cap
 
 -- No entry answers: no NXDOMAIN of the name lives, no link of the type, no CNAME that is an alias for another type, and
 -- no NXDOMAIN of a name above that counts.

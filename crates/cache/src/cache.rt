@@ -1,5 +1,5 @@
 //! The cache: links are put in, and looked up.
-ghost use Rattle.std.specs.Prelude.{◌≡◌, ◌≢◌, ◌≤◌, [], ◌∷◌, IfOk, OnOk, OnErr, IfSome, IfNone, Contains, length, option_map, option_copied};
+ghost use Rattle.std.specs.Prelude.{◌≡◌, ◌≢◌, ◌≤◌, ℕ, List, [], ◌∷◌, MatchOption, IfOk, OnOk, OnErr, IfSome, IfNone, Contains, length, option_map, option_copied};
 ghost use Rattle.std.specs.Bool.{OnTrue, OnFalse};
 ghost use Rattle.std.specs.NonZero.{non_zero_usize_get};
 ghost use Rattle.lru.specs.LruCache.{lru_cache, IsValid};
@@ -8,7 +8,7 @@ ghost use Rattle.rdata.specs.Types.{type_number};
 ghost use Rattle.zone.specs.Views.{link_view};
 ghost use Rattle.lru_laws.specs.Orders.{KeepsOnly, LosesOnly, HasSame};
 ghost use Rattle.cache.specs.Keys.{same_key, key_for, error_key};
-ghost use Rattle.cache.specs.Cached.{as_kept, kept_ttl, is_error, live_at, set_at, alias_at, under, answer, asked_to, above_to, error_above, hit_of, lent, moved, swept, stored, after_keep, IsKept, IsGone, IsHeld, IsMiss};
+ghost use Rattle.cache.specs.Cached.{as_kept, kept_ttl, own_end, IsUsed, is_error, live_at, set_at, alias_at, under, answer, asked_to, above_to, error_above, hit_of, lent, moved, swept, stored, after_keep, IsKept, IsGone, IsHeld, IsMiss};
 ghost use Rattle.cache.specs.Packed.{hit_of_packed};
 
 use crate::hit::Hit;
@@ -202,6 +202,27 @@ impl<S: BuildHasher + Drop, A: Heap> Cache<S, A> {
         found
     }
 
+    /// What `look` gives for this name and type at the moment `now`, in milliseconds, whatever its `top`, where an entry
+    /// of the name itself answers that is no alias: its NXDOMAIN, or the link of the type. It becomes the most recently
+    /// used. None, and no change, where there is neither.
+    pub fn look_end(
+        &mut self,
+        name: &Name<A>,
+        kind: RType,
+        now: u64,
+    ) -> Result<Option<Hit<A>>, Starved>
+        ensures ok { IfOk result (λ o. MatchOption o (self.new ≡ self.old) (λ h. (top : List (List ℕ)) → IsUsed (asked_to top name.now (type_number kind)) now self.old h self.new)) }
+        ensures err { OnErr result (self.new ≡ self.old) }
+    {
+        let mut key = self.key_of(name)?;
+        let hit = self.find_end(&mut key, kind, now)?;
+        if hit.is_some() {
+            self.entries.promote(&key);
+        }
+        self.put_back(key);
+        Ok(hit)
+    }
+
     // A key of this name, in the memory of the last key.
     fn key_of(&mut self, name: &Name<A>) -> Result<Key<A>, Starved>
         ensures key { IfOk result (λ k. k.name ≡ name.now) }
@@ -287,22 +308,29 @@ impl<S: BuildHasher + Drop, A: Heap> Cache<S, A> {
         ensures value { IfOk result (λ h. under key.new h ≡ answer key.old.name (type_number kind) now self.now.entries) }
         ensures name { key.new.name ≡ key.old.name }
     {
-        // 1. The name's NXDOMAIN.
-        key.slot = Slot::NameError;
-        if let Some(hit) = self.set_at(key, now)? {
-            return Ok(Some(hit));
-        }
-        // 2. The link of the type. For type CNAME nothing else answers.
-        key.slot = Slot::Of(kind);
-        if let Some(hit) = self.set_at(key, now)? {
+        // 1. The name's NXDOMAIN, or the link of the type. For type CNAME nothing else answers.
+        if let Some(hit) = self.find_end(key, kind, now)? {
             return Ok(Some(hit));
         }
         if kind.number() == RType::Cname.number() {
             return Ok(None);
         }
-        // 3. The alias, for another type.
+        // 2. The alias, for another type.
         key.slot = Slot::Of(RType::Cname);
         Ok(self.alias_at(key, now)?)
+    }
+
+    // The answer of the key's own name for this type that is no alias; the key becomes that of its entry.
+    fn find_end(&self, key: &mut Key<A>, kind: RType, now: u64) -> Result<Option<Hit<A>>, Starved>
+        ensures value { IfOk result (λ h. under key.new h ≡ own_end key.old.name (type_number kind) now self.now.entries) }
+        ensures name { key.new.name ≡ key.old.name }
+    {
+        key.slot = Slot::NameError;
+        if let Some(hit) = self.set_at(key, now)? {
+            return Ok(Some(hit));
+        }
+        key.slot = Slot::Of(kind);
+        Ok(self.set_at(key, now)?)
     }
 
     fn set_at(&self, key: &Key<A>, now: u64) -> Result<Option<Hit<A>>, Starved>

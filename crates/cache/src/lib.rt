@@ -3,10 +3,10 @@
 //!
 //! `keep` caches a link under its name and type, NXDOMAIN under the name alone; a link with TTL 0 is not cached, and
 //! its old entry goes. `look` gives the first of these that lives: NXDOMAIN of the name, the link of the type, a CNAME
-//! for other types, or NXDOMAIN of a name above, which denies all names beneath (RFC 8020). `holds` tells whether it
-//! would give a link that is no alias. `Hit::into_link` is the link as it is sent, its TTLs less its age. Beyond the
-//! capacity the least recently used entry goes. `Failures` caches for 30 seconds which server failed to answer which
-//! question (RFC 2308, section 7.1).
+//! for other types, or NXDOMAIN of a name above, which denies all names beneath (RFC 8020). `look_end` gives the first
+//! two alone, and `peek` what `look` would give, with no entry used. `Hit::into_link` is the link as it is sent, its TTLs
+//! less its age. Beyond the capacity the least recently used entry goes. `Failures` caches for 30 seconds which server
+//! failed to answer which question (RFC 2308, section 7.1).
 //!
 //! Promised: the answer of each call, and the entries afterwards, exactly (`lent`, `after_keep`, `after_look`) and in
 //! words. An answer was cached and lives (`IsHeld`); there is none only where no entry answers (`IsMiss`; `given_law`).
