@@ -1,12 +1,15 @@
 -- A query that comes, by what was found for its name first.
-use Rattle.std.proofs.Common.{◌≡◌, ℕ, zero, suc, List, [], ◌∷◌, ◌++◌, refl, sym, subst}
+use Rattle.std.proofs.Common.{◌≡◌, ℕ, zero, suc, Result, Ok, Err, Option, Some, None, List, [], ◌∷◌, ◌++◌, refl, sym, subst}
+use Rattle.std.specs.Prelude.{MatchOption}
 use Rattle.resolution.specs.Jobs.{Home, Stores, Taken, AreFresh, IsEnding, Job, Start, Next, Done, Seek, Take, Point, point}
 use Rattle.resolution.specs.Rules.{Finds, Rule, takes, Rules, Leaves, done, Advances}
 use Rattle.resolution.specs.Stops.{LooksInPart, IsPart, Stops, in_rule}
 use Rattle.resolution.proofs.Falls.{stays_fresh}
+use Rattle.lookup.specs.Ends.{IfGiven, IsFoundEnd}
 use Rattle.lookup.specs.Found.{IsFound}
 use Rattle.lookup.specs.declared.lookup.Found.{Found}
 use Rattle.lookup.proofs.Uses.{found_part}
+use Rattle.iterate.specs.Beginnings.{AnswersWith}
 use Rattle.iterate.proofs.Parts.{seek_part}
 
 -- A rule, and further ones after it.
@@ -46,3 +49,19 @@ stops_later home now j old mid last count new rule rules part = in_rule (point S
 -- What was found for a query was found for its job.
 pub found_of : {A : Type 0} (home : Home) (now : ℕ) (query j : Job) (before mid : Stores) (f : Found A) → j ≡ query → IsFound home now query.name query.kind before f mid → IsFound home now j.name j.kind before f mid
 found_of home now query j before mid f is = subst (λ (x : Job). IsFound home now x.name x.kind before f mid) (sym is)
+
+-- The end that was found for a query is its answer, where it has no chain yet.
+module _ (home : Home) (now : ℕ) (j : Job) (old new : Stores) (none : j.chain ≡ []) where
+  answers : (l : Taken) → IsFoundEnd home now j.name j.kind old l new → AnswersWith home now j old l new
+  answers l found = record {
+    over = j;
+    advances = subst (λ (chain : List Taken). Advances home now Start j old (Done chain l) j new) none (begins_known home now j old l new none found.finds found.ends);
+    held = found.held;
+    ends = found.ends;
+  }
+
+  pub answers_with : {E : Type 0} (o : Option (Result Taken E)) → MatchOption o (new ≡ old) (IfGiven (λ l. IsFoundEnd home now j.name j.kind old l new))
+      → MatchOption o (new ≡ old) (IfGiven (λ l. AnswersWith home now j old l new))
+  answers_with None same = same
+  answers_with (Some (Ok l)) found = answers l found
+  answers_with (Some (Err e)) found = (found.0, answers found.0 found.1)

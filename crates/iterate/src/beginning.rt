@@ -1,18 +1,19 @@
 //! The beginning of a query: its answer where that is known, or else the work on it.
-ghost use Rattle.std.specs.Prelude.{◌↔◌, min, IsTrue, IfOk, OnErr};
+ghost use Rattle.std.specs.Prelude.{◌≡◌, ◌↔◌, min, MatchOption, IsTrue, IfOk, OnErr};
 ghost use Rattle.limits.specs.Limits.{latest_moment};
 ghost use Rattle.rdata.specs.Types.{type_number};
 ghost use Rattle.resolution.specs.Jobs.{Stores as StoresSpec, Start, job_at, IsEnding};
 ghost use Rattle.resolution.specs.Stops.{Stops};
+ghost use Rattle.lookup.specs.Ends.{IfGiven};
 ghost use Rattle.lookup.specs.Found.{IsFound};
-ghost use Rattle.iterate.specs.Beginnings.{StartsWith};
+ghost use Rattle.iterate.specs.Beginnings.{StartsWith, AnswersWith};
 
 use crate::advancing::run;
 use crate::calls::Next;
 use crate::job::Job;
 use crate::moves::due_after;
 use dname::Name;
-use lookup::{Found, Home, Stores, Taken, find};
+use lookup::{Found, Home, Stores, Taken, find, find_end};
 use memory::{Heap, Starved};
 use rdata::RType;
 use std::alloc::{Allocator, Global};
@@ -112,4 +113,21 @@ pub fn begin_query<S: BuildHasher + Drop, A: Heap>(
         }
         Found::Start(cut) => work(alloc, name, kind, Found::Start(cut), home, stores, now),
     }
+}
+
+/// The answer of a query for a name and a type at the moment `now`, in milliseconds, where that shows at once: the link
+/// that `begin_query` would give, where it is no alias and stands in a local zone, or in the cache under the name itself.
+/// None, and no change in the stores, where not, or where no memory is left to see it. It is out of memory where the link
+/// was used, and could not be given.
+pub fn answer_query<S: BuildHasher + Drop, A: Heap>(
+    alloc: A,
+    name: &Name<A>,
+    kind: RType,
+    home: &Home<A>,
+    stores: &mut Stores<S, A>,
+    now: u64,
+) -> Option<Result<Taken<A>, Starved>>
+    ensures { MatchOption result (stores.new ≡ stores.old) (IfGiven (λ last. AnswersWith home.now now (job_at name.now (type_number kind) (min now latest_moment)) stores.old last stores.new)) }
+{
+    find_end(alloc, home, name, kind, stores, now)
 }

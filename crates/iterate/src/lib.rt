@@ -2,7 +2,7 @@
 //! replies.
 //!
 //! `begin_query` starts a query: a link that is found for its name and is no alias is the answer, without a job; else a
-//! `Job` is made, with ten seconds for it. `advance_by_reply` takes what was read of a message that was accepted for its
+//! `Job` is made, with ten seconds for it. `answer_query` gives such a link alone, where that shows at once. `advance_by_reply` takes what was read of a message that was accepted for its
 //! ask, and `advance` another `Input`: a time-out, or an ask over TCP that failed. All three answer with the `Next` thing
 //! that goes out: an ask of a server in a datagram or over TCP, the CNAME chain and its end, or the cause of a failure.
 //!
@@ -41,7 +41,7 @@ mod serving;
 mod task;
 
 pub use advancing::{advance, advance_by_reply};
-pub use beginning::{Started, begin_query};
+pub use beginning::{Started, answer_query, begin_query};
 pub use calls::{Input, Next};
 pub use chain::Chain;
 pub use job::Job;

@@ -1,4 +1,5 @@
 -- To be read: what the words of the contracts mean.
+pub mod Ends
 pub mod Found
 pub mod Held
 pub mod Uses

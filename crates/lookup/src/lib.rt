@@ -4,12 +4,13 @@
 //! `Home` holds the local zones and the root's cut, made of the hints (SBELT). `Stores` holds the cache, the
 //! delegations, the penalties of servers, and which of them failed lately. `find` looks in the zones first and in the
 //! cache next; where neither has a link, it gives the cut at which servers are sought: the one that the zones name, or
-//! a deeper one that is cached. `holds` tells beforehand whether the answer is at hand: at most eight aliases and the
-//! end behind them, all of which `find` would give. `Taken` is a link with its source, and `into_sent` the link as it
-//! is sent.
+//! a deeper one that is cached. `find_end` gives a link alone, and only one that is no alias. `holds` tells beforehand
+//! whether the answer is at hand: at most eight aliases and the end behind them, all of which `find` would give. `Taken`
+//! is a link with its source, and `into_sent` the link as it is sent.
 //!
-//! Promised: the link that is found, or that there is none and where the search starts (`IsFound`). Where memory runs
-//! out, the look-up was made in the stores, or it was not (`LooksInPart`). Whether the answer is at hand (`IsAtHand`).
+//! Promised: the link that is found, or that there is none and where the search starts (`IsFound`; `IsFoundEnd`). Where
+//! memory runs out, the look-up was made in the stores, or it was not (`LooksInPart`). Whether the answer is at hand
+//! (`IsAtHand`).
 //! Each call of the stores is one equation over `resolution`'s definitions.
 //! Not here: asking servers (`iterate`).
 //!
@@ -21,6 +22,7 @@
 //! ```
 #![tactic(auto)]
 
+mod ends;
 mod held;
 mod home;
 mod lookup;
@@ -28,6 +30,7 @@ mod made;
 mod stores;
 mod taken;
 
+pub use ends::find_end;
 pub use held::holds;
 pub use home::Home;
 pub use lookup::{Found, find};

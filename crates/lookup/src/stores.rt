@@ -1,8 +1,9 @@
 //! The four stores of the resolver, each of a fixed capacity: links and failures of servers (`cache`), delegations
 //! (`referral`) and the penalties of servers (`retry`). `Stores` has one call for each use that the work on a query
 //! makes of them. It decides how long a link or a cut is cached, and how much of a cut.
-ghost use Rattle.std.specs.Prelude.{◌≡◌, IfOk, IfSome, OnOk, OnErr};
+ghost use Rattle.std.specs.Prelude.{◌≡◌, IfOk, IfSome, MatchOption, OnOk, OnErr};
 ghost use Rattle.std.specs.NonZero.{non_zero_usize_get};
+ghost use Rattle.dname.specs.Labels.{Name as NameSpec};
 ghost use Rattle.rdata.specs.Types.{type_number};
 ghost use Rattle.zone.specs.Views.{link_view};
 ghost use Rattle.referral.specs.Cuts.{IsBest};
@@ -10,6 +11,7 @@ ghost use Rattle.cache.specs.Cached.{asked_to, lent, hit_of, IsHeld};
 ghost use Rattle.cache.specs.Failures.{failed_ask, is_failed};
 ghost use Rattle.frames.specs.Frames.{opened, fresh_addresses, after_add};
 ghost use Rattle.resolution.specs.Jobs.{level_of, with_answer, with_timeout};
+ghost use Rattle.lookup.specs.Ends.{IsUsed};
 ghost use Rattle.lookup.specs.Views.{no_stores, sizes_of, with_link, with_cut, with_failed, after_look, after_best, after_failure_look};
 
 use cache::{Cache, Failures, Hit};
@@ -130,6 +132,20 @@ impl<S: BuildHasher + Drop, A: Heap> Stores<S, A> {
         ensures err { OnErr result (self.new ≡ self.old) }
     {
         Ok(self.cache.look(name, kind, top, now)?)
+    }
+
+    /// What `look` gives at the moment `now`, in milliseconds, whatever its `top`, where an entry of the name itself answers
+    /// that is no alias. It becomes the most recently used. None, and no change, where there is none.
+    pub fn look_end(
+        &mut self,
+        name: &Name<A>,
+        kind: RType,
+        now: u64,
+    ) -> Result<Option<Hit<A>>, Starved>
+        ensures ok { IfOk result (λ o. MatchOption o (self.new ≡ self.old) (λ h. (top : NameSpec) → IsUsed top now name.now (type_number kind) self.old h self.new)) }
+        ensures err { OnErr result (self.new ≡ self.old) }
+    {
+        Ok(self.cache.look_end(name, kind, now)?)
     }
 
     /// What `look` would give. No entry is used by that.
