@@ -1,10 +1,10 @@
 //! The book: a machine's state, its counts and its last entries, which one history led to.
-ghost use Rattle.std.specs.Prelude.{◌≡◌, ◌+◌, ◌^◌, ◌<◌, ◌≤◌, ◌↔◌, ◌⊎◌, [], ◌∷◌, length, reverse, replicate, take, IfOk, OnErr, MatchOption, IsTrue, option_copied, slice_get, slice_set};
+ghost use Rattle.std.specs.Prelude.{◌≡◌, ◌+◌, ◌^◌, ◌<◌, ◌≤◌, ◌↔◌, ◌⊎◌, [], ◌∷◌, length, reverse, replicate, take, IfOk, IfSome, IfNone, OnErr, MatchOption, IsTrue, option_copied, slice_get, slice_set};
 ghost use Rattle.circular_buffer.specs.Buffer.{buffer};
 ghost use Rattle.book.specs.Books.{book_view, ticket_view, first_tickets, Owns, Reached, IsHistory, Takes, Stands, Gives};
 
 use crate::entry::Entry;
-use crate::machine::Machine;
+use crate::machine::{Answering, Machine};
 use crate::ticket::{Ticket, issue};
 use circular_buffer::HeapCircularBuffer;
 use memory::{Heap, Starved};
@@ -273,5 +273,33 @@ impl<M: Machine, L: Ledger, A: Allocator> Book<M, L, A> {
         }
         history.reverse();
         Ok(history)
+    }
+}
+
+impl<M: Answering, L: Ledger, A: Allocator> Book<M, L, A> {
+    /// The machine takes one step on `event`, as `step` does, where its answer is there and that shows at once. None,
+    /// and nothing changes, where it is not, where a count is at its end, and where the book keeps entries.
+    pub fn answer(
+        &mut self,
+        ticket: &mut Ticket<L>,
+        event: &M::Event,
+    ) -> Option<Result<M::Out, Starved>>
+        requires { Owns self.old ticket.old }
+        ensures none { IfNone result ((self.new ≡ self.old) × (ticket.new ≡ ticket.old)) }
+        ensures there { IfSome result (λ r. M.has_answer self.old.state event.now) }
+        ensures ok { IfSome result (λ r. IfOk r (λ out. Gives M.moves M.begins self.old ticket.old event.now out self.new ticket.new)) }
+        ensures err { IfSome result (λ r. OnErr r (Stands M.moves self.old ticket.old event.now self.new ticket.new)) }
+    {
+        if self.tail.capacity() != 0 || ticket.count == u64::MAX || self.entries == u64::MAX {
+            return None;
+        }
+        let out = M::answer(&mut self.state, event)?;
+        count_up(
+            &mut self.counts,
+            &mut self.entries,
+            &mut self.shares,
+            ticket,
+        );
+        Some(out)
     }
 }

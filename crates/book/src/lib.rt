@@ -3,8 +3,9 @@
 //!
 //! A `Machine` has a state and steps by events; `Measured` and `Answering` are such of which more can be told.
 //! `Book::new` gives a book and a `Ticket` for each worker; `put` takes one step as a ticket's worker and answers with
-//! its `Entry`, `step` with what came out alone. `recent` and `into_history` read the entries, `state` and `counts` the
-//! rest. A ticket's count is its share of a ledger, so that nobody can make an entry of another's.
+//! its `Entry`, `step` with what came out alone; `answer` is a step that is taken only where its answer is at hand.
+//! `recent` and `into_history` read the entries, `state` and `counts` the rest. A ticket's count is its share of a
+//! ledger, so that nobody can make an entry of another's.
 //!
 //! Promised: one history led to the book (`reached_law`, `Reached`); a step is one the machine may take, and its entry
 //! the newest (`Takes`, `Gives`); the whole history, while it is kept (`IsHistory`); the shares of all tickets are all

@@ -1,5 +1,5 @@
 //! What a machine is, so that one thread or many may drive it.
-ghost use Rattle.std.specs.Prelude.{◌≡◌, ◌↔◌, IfOk, IsTrue};
+ghost use Rattle.std.specs.Prelude.{◌≡◌, ◌↔◌, IfOk, MatchOption, IsTrue};
 
 use memory::Starved;
 
@@ -66,4 +66,8 @@ pub trait Answering: Machine {
     /// Whether the answer to this event is there. Nothing changes by that.
     fn holds(state: &Self::State, event: &Self::Event) -> Result<bool, Starved>
         ensures { IfOk result (λ b. IsTrue b ↔ has_answer state.now event.now) };
+
+    /// Takes the step on this event where its answer is there and that shows at once. None, and no change, where not.
+    fn answer(state: &mut Self::State, event: &Self::Event) -> Option<Result<Self::Out, Starved>>
+        ensures { MatchOption result (state.new ≡ state.old) (λ r. has_answer state.old event.now × Self.moves state.old event.now r state.new) };
 }

@@ -3,8 +3,8 @@
 //!
 //! `Shared::new` puts a book behind a lock. `submit` takes one step of its machine as the worker of a ticket, on any
 //! thread, and answers with its entry, `take_step` with what came out alone. `Shared::lock` holds the lock for several
-//! steps in a row, each of which `step_locked` takes. `sizes` tells the sizes of its state. When all are done, `gather`
-//! takes the book (`into_book`) and what each worker `Kept`.
+//! steps in a row, each of which `step_locked` takes, or `answer_locked` where the answer is at hand. `sizes` tells the
+//! sizes of its state. When all are done, `gather` takes the book (`into_book`) and what each worker `Kept`.
 //!
 //! Promised: a step is that worker's, on that event and with its next number (`Enters`, `EntersAndGives`), and a
 //! refusal leaves the ticket as `IsEventRefused` says. The sizes that are told are those of a state to which one
@@ -25,4 +25,4 @@ mod shared;
 
 pub use closing::{Closed, Kept, gather};
 pub use fault::PoolError;
-pub use shared::{Shared, sizes, step_locked, submit, take_step};
+pub use shared::{Shared, answer_locked, sizes, step_locked, submit, take_step};
