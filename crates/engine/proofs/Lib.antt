@@ -15,3 +15,4 @@ pub mod Histories
 pub mod Unwritten
 pub mod Told
 pub mod AtHand
+pub mod AtOnce

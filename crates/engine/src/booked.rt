@@ -107,6 +107,12 @@ impl Answering for TypedCore {
     fn holds(state: &Core, event: &TypedEvent) -> Result<bool, Starved> {
         state.holds(event)
     }
+
+    fn answer(state: &mut Core, event: &TypedEvent) -> Option<Result<TypedActions, Starved>> {
+        // For the proof: the event was read of some bytes.
+        let _ = event.parsed();
+        state.answer(event)
+    }
 }
 
 /// The history of such a book, from a resolver that has done nothing yet, is a run: each law of runs holds of it,

@@ -2,8 +2,9 @@
 //!
 //! `Core::new` makes a resolver of a `Config`: local zones, hints, and the `Settings` of an operator. `Core::step`
 //! takes one `events::Event` and gives one action at most, a reply or an ask, and whether another query is due.
-//! `Core::step_typed` is the same step where messages are read before it and written after it (`typed`). `Core` is a
-//! `book::Machine`, so that many workers can share one.
+//! `Core::step_typed` is the same step where messages are read before it and written after it (`typed`). `Core::answer`
+//! takes it only where the answer to a query is at hand, and that shows at once. `Core` is a `book::Machine`, so that
+//! many workers can share one.
 //!
 //! Promised: a step is one of `runs`, and each law of `laws` is kept by it, whatever run led there (`Steps`). The
 //! history of a shared resolver is a run (`history_is_run`, `typed_history_is_run`). Where `Core::holds` says that the
@@ -29,6 +30,7 @@ mod admit;
 mod advance;
 mod answer;
 mod ask;
+mod at_once;
 mod booked;
 mod client;
 mod datagram;

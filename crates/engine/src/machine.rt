@@ -1,11 +1,12 @@
 //! `Core`, the resolver as one machine for one thread. Its `step` says in its contract what the crate promises.
-ghost use Rattle.std.specs.Prelude.{◌≡◌, ◌↔◌, false, Some, None, IsTrue, IfOk, IsOk, OnErr, MatchResult};
+ghost use Rattle.std.specs.Prelude.{◌≡◌, ◌↔◌, false, Some, None, IsTrue, IfOk, IfSome, IsOk, OnErr, MatchOption, MatchResult};
 ghost use Rattle.std.specs.NonZero.{non_zero_usize_get};
 ghost use Rattle.authority.specs.Catalogs.{has_twins};
 ghost use Rattle.authority.specs.CatalogFaults.{CatalogRefuses};
 ghost use Rattle.lookup.specs.Views.{home_at, no_stores, sizes_of};
 ghost use Rattle.engine.specs.AtHand.{HasAnswer};
 ghost use Rattle.engine.specs.Beginnings.{CoreRefuses, IsMade};
+ghost use Rattle.engine.specs.Histories.{written_of};
 ghost use Rattle.engine.specs.ResolverStates.{state_of};
 ghost use Rattle.engine.specs.Turns.{IsQuiet};
 ghost use Rattle.engine.specs.Promises.{Steps};
@@ -154,6 +155,18 @@ impl<A: Heap> Core<A> {
     {
         self.state.advance_clock(event.moment());
         let said = self.state.handle_parsed(event.parsed());
+        self.state.queries.apart_law();
+        said
+    }
+
+    /// The step of `step_typed` on a client's query with RD whose answer is at hand, where that shows at once: a link that is
+    /// no alias stands in a local zone, or in the cache under the name itself. None, and no change, for all else, also
+    /// where no memory is left to see it.
+    pub fn answer(&mut self, event: &TypedEvent<A>) -> Option<Result<TypedActions<A>, Starved>>
+        ensures has { MatchOption result (self.new ≡ self.old) (λ r. HasAnswer self.old event.now) }
+        ensures steps { (e : EventSpec) → ReadAs e event.now → IfSome result (λ r. Steps self.old e (written_of r) self.new) }
+    {
+        let said = self.state.answer_parsed(event.parsed());
         self.state.queries.apart_law();
         said
     }
