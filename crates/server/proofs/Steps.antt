@@ -1,7 +1,11 @@
 -- What is said of a result of which only a part is known.
-use Rattle.std.proofs.Common.{inl, Result, Ok, Err, OnErr}
+use Rattle.std.proofs.Common.{◌≡◌, inl, sym, subst, Result, Ok, Err, Option, IfOk, IfSome, OnErr}
+use Rattle.std.specs.Result.{result_ok}
+use Rattle.memory.specs.declared.Starved.{Starved}
 use Rattle.book.specs.Books.{TicketView}
-use Rattle.pool.specs.Closings.{IsEventRefused}
+use Rattle.typed.specs.Events.{Parsed}
+use Rattle.server.specs.Passages.{IsGiven}
+use Rattle.pool.specs.Closings.{EntersAndGives, IsEventRefused}
 use Rattle.pool.specs.declared.fault.PoolError.{PoolError}
 use Rattle.pool.specs.declared.fault.PoolError.TheVariants.{Differs, Forgot, Memory, Stranger}
 
@@ -16,3 +20,10 @@ refused_any t u Memory h = h
 refused_any t u Stranger h = inl h
 refused_any t u Differs h = absurd h
 refused_any t u Forgot h = absurd h
+
+module _ {S O : Type 0} (moves : S → Parsed → Result O Starved → S → Type 0) (begins : S → Type 0) where
+  -- What is kept of a step was given, where it was not refused.
+  pub kept_of : (t u : TicketView) (parsed : Parsed) (r : Result O PoolError) (kept : Option O) → kept ≡ result_ok r
+      → IfOk r (λ out. EntersAndGives moves begins t parsed out u) → IfSome kept (IsGiven moves begins parsed)
+  kept_of t u parsed (Ok out) kept is gives = subst (λ v. IfSome v (IsGiven moves begins parsed)) (sym is) (record { before = t; after = u; gives = gives })
+  kept_of t u parsed (Err e) kept is gives = subst (λ v. IfSome v (IsGiven moves begins parsed)) (sym is) tt

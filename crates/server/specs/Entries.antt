@@ -17,7 +17,7 @@ use Rattle.typed.specs.Events as typed
 use Rattle.server.specs.Askers.{admission_client}
 use Rattle.server.specs.Keys.{query_key, domain_key}
 use Rattle.server.specs.declared.passage.Standing.{Standing}
-use Rattle.server.specs.declared.passage.Standing.TheVariants.{Free, Asks, Admitted}
+use Rattle.server.specs.declared.passage.Standing.TheVariants.{Free, Asks, Admitted, Comes, Answered}
 use Rattle.server.specs.declared.passage.Standing.TheVariants as standing
 use Rattle.server.specs.declared.shared_admission.Question.{Question}
 use Rattle.server.specs.declared.query.Asker.{Asker}
@@ -26,6 +26,8 @@ use Rattle.server.specs.declared.query.Query.{Query}
 -- Whether a question that asks is said to be of a domain of which a name was answered.
 abbrev pub answered_in : Standing → Bool
 answered_in (Asks question) = question.was_answered
+answered_in Comes = false
+answered_in Answered = false
 answered_in Free = false
 answered_in (Admitted question) = false
 answered_in standing.Held = false
@@ -50,13 +52,28 @@ IsStanding start (typed.TcpReply now number reading) standing = standing ≡ Fre
 IsStanding start (typed.TcpFailed now number) standing = standing ≡ Free
 IsStanding start (typed.Tick now) standing = standing ≡ Free
 
--- A question that was admitted before stands so. Of any other message that says what was read of it.
-abbrev pub StandsAs : DefaultHasher → Option Question → Parsed → Standing → Type 0
-StandsAs start (Some question) parsed standing = standing ≡ Admitted question
-StandsAs start None parsed standing = IsStanding start parsed standing
+-- How a message stands that was read just now: a question that was admitted before stands so. Of any other message it
+-- is still to be seen whether it has to ask.
+abbrev pub first_standing : Option Question → Standing
+first_standing (Some question) = Admitted question
+first_standing None = Comes
 
--- Whether the step of a message that stands so is taken now.
+-- How a message stands once that is seen, which stood so before: where it was still to be seen, what was read of it
+-- says how. Else it stands as it did.
+abbrev pub StandsAs : DefaultHasher → Parsed → Standing → Standing → Type 0
+StandsAs start parsed Comes stands = IsStanding start parsed stands
+StandsAs start parsed Answered stands = stands ≡ Answered
+StandsAs start parsed Free stands = stands ≡ Free
+StandsAs start parsed (Asks question) stands = stands ≡ Asks question
+StandsAs start parsed (Admitted question) stands = stands ≡ Admitted question
+StandsAs start parsed standing.Held stands = stands ≡ standing.Held
+StandsAs start parsed standing.Dropped stands = stands ≡ standing.Dropped
+StandsAs start parsed standing.Unseen stands = stands ≡ standing.Unseen
+
+-- Whether the step of a message that stands so is to be taken now. Of one that was answered it is taken already.
 abbrev pub is_passed : Standing → Bool
+is_passed Comes = false
+is_passed Answered = false
 is_passed Free = true
 is_passed (Admitted question) = true
 is_passed (Asks question) = false
@@ -96,6 +113,8 @@ StandsBy before question moment query stands here after =
 
 -- Whether the query of a question that stands so is still here: it is, unless it waits in admission.
 abbrev pub is_here : Standing → Bool
+is_here Comes = true
+is_here Answered = true
 is_here Free = true
 is_here (Asks question) = true
 is_here (Admitted question) = true
@@ -107,6 +126,8 @@ is_here standing.Unseen = true
 -- its answer: its step asks no server, so that it needs no place. It is dropped where the machine does not hold it, or no
 -- memory is left to see that.
 abbrev pub IsLetBy : Type 0 → Standing → Standing → Type 0
+IsLetBy holds Comes stands = stands ≡ Comes
+IsLetBy holds Answered stands = stands ≡ Answered
 IsLetBy holds Free stands = stands ≡ Free
 IsLetBy holds (Asks question) stands = stands ≡ Asks question
 IsLetBy holds (Admitted question) stands = stands ≡ Admitted question
@@ -120,6 +141,8 @@ IsLetBy holds standing.Unseen stands = stands ≡ standing.Unseen
 abbrev pub told : Standing → Bool → ℕ → State Query → State Query
 told (Admitted question) asks moment d =
     cond asks (opened question.key question.client moment d) (left (is_entering question.key question.client) d)
+told Comes asks moment d = d
+told Answered asks moment d = d
 told Free asks moment d = d
 told (Asks question) asks moment d = d
 told standing.Held asks moment d = d

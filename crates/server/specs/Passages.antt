@@ -1,7 +1,7 @@
 -- A client's message on its way through the machine: what was read of it, and what a step on that gave.
-use Rattle.std.specs.Prelude.{◌≡◌, ℕ, Bool, true, false, Result, Option, Some, None, List, IfSome, MatchOption, option_map}
+use Rattle.std.specs.Prelude.{◌≡◌, ℕ, ◌+◌, Bool, true, false, Result, Option, Some, None, List, IfSome, MatchOption, option_map}
 use Rattle.memory.specs.declared.Starved.{Starved}
-use Rattle.book.specs.Books.{TicketView}
+use Rattle.book.specs.Books.{TicketView, ticket_view}
 use Rattle.pool.specs.Closings.{EntersAndGives}
 use Rattle.wire.specs.declared.via.Via.{Via}
 use Rattle.runs.specs.States.{Event, Action, Client}
@@ -11,7 +11,7 @@ use Rattle.typed.specs.declared.action.TypedAction.TheVariants.{Reply, Refusal, 
 use Rattle.typed.specs.declared.action.TypedActions.{TypedActions}
 use Rattle.admission.specs.States.{State}
 use Rattle.server.specs.declared.passage.Standing.{Standing}
-use Rattle.server.specs.declared.passage.Standing.TheVariants.{Free, Asks, Admitted, Held, Dropped, Unseen}
+use Rattle.server.specs.declared.passage.Standing.TheVariants.{Comes, Answered, Free, Asks, Admitted, Held, Dropped, Unseen}
 use Rattle.server.specs.declared.query.Query.{Query}
 use Rattle.server.specs.declared.shared_admission.Question.{Question}
 use Rattle.server.specs.Entries.{StandsBy, IsLetBy}
@@ -76,6 +76,8 @@ module _ {O : Type 0} where
   abbrev pub Enters : (Parsed → Type 0) → Standing → State Query → PassageView O → PassageView O → State Query → Type 0
   Enters holds (Asks question) before p q after =
       MatchOption p.event (IsUnchanged before p q after) (λ event. IsEntered (holds p.parsed) before question p q after)
+  Enters holds Comes before p q after = IsUnchanged before p q after
+  Enters holds Answered before p q after = IsUnchanged before p q after
   Enters holds Free before p q after = IsUnchanged before p q after
   Enters holds (Admitted question) before p q after = IsUnchanged before p q after
   Enters holds Held before p q after = IsUnchanged before p q after
@@ -99,6 +101,14 @@ module _ {S O : Type 0} (moves : S → Parsed → Result O Starved → S → Typ
     pub out : O
     pub gives : EntersAndGives moves begins t p.parsed out u
     pub noted : q ≡ record p { given = Some out }
+
+  -- The machine has the answer to a message that has not asked for admission, and the ticket t took its step and is u
+  -- now. The message stands as answered, with what the step gave: nothing, where that wanted memory.
+  pub record AnswersAtOnce (has_answer : Parsed → Type 0) (t : TicketView) (p q : PassageView O) (u : TicketView) : Type 0 where
+    pub came : p.standing ≡ Comes
+    pub at_hand : has_answer p.parsed
+    pub gives : MatchOption q.given (u ≡ ticket_view t.worker (t.count + 1)) (λ out. EntersAndGives moves begins t p.parsed out u)
+    pub becomes : q ≡ record p { standing = Answered; given = q.given }
 
 module _ {S A : Type 0} (moves : S → Parsed → Result (TypedActions A) Starved → S → Type 0) (begins : S → Type 0) where
   -- The event was read, the machine took one step on that, and the actions are what it gave, written.

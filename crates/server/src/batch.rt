@@ -1,7 +1,8 @@
-//! Clients' messages put: those that came together step under one lock.
+//! Clients' messages put: those that came together step under one lock. Those whose answer is at hand are answered
+//! first, under the machine's lock alone; only the others ask for admission.
 ghost use Rattle.std.specs.Prelude.{◌≤◌, length};
 
-use crate::context::{Common, Context};
+use crate::context::Context;
 use crate::passage::{Passage, Standing};
 use crate::query::{Asker, Query};
 use crate::shared_admission::Question;
@@ -81,8 +82,8 @@ impl<M: Answering<Event = TypedEvent, Out = TypedActions>, L: Ledger> Context<'_
         self.join(worker, moment, query, None, moment)
     }
 
-    // A message that came then is read, and joins the batch at this moment; whether it could. It asks for admission,
-    // unless that question was admitted before.
+    // A message that came then is read, and joins the batch at this moment; whether it could. It may have to ask for
+    // admission, unless that question was admitted before.
     fn join(
         &self,
         worker: &mut Worker<M, L>,
@@ -91,13 +92,8 @@ impl<M: Answering<Event = TypedEvent, Out = TypedActions>, L: Ledger> Context<'_
         admitted: Option<Question>,
         since: u64,
     ) -> bool {
-        let Common {
-            alloc,
-            admission,
-            ..
-        } = self.common;
         let came = self.common.arrival(&query, since);
-        let joined = match Passage::read(*alloc, admission, moment, query, admitted, came) {
+        let joined = match Passage::read(self.common.alloc, moment, query, admitted, came) {
             Ok(passage) => worker.batch.push(passage).is_ok(),
             Err(_) => false,
         };
@@ -175,9 +171,44 @@ impl<M: Answering<Event = TypedEvent, Out = TypedActions>, L: Ledger> Context<'_
         answers
     }
 
-    // Takes the steps of those that are admitted, or whose answer the machine holds, under one lock, and tells admission
-    // what each gave, before that is handed over: else a reply might come before its question is noted.
+    // Takes the steps of the batch. Most answers are at hand: these need neither admission nor its hashes. What the
+    // others ask is hashed while no lock is held.
     fn step_all<R: Wait>(&self, rt: &R, worker: &mut Worker<M, L>, batch: &mut [Passage<M>]) {
+        if self.answer_all(rt, worker, batch) {
+            return;
+        }
+        for passage in batch.iter_mut() {
+            passage.ask(self.common.admission);
+        }
+        self.enter_all(rt, worker, batch);
+    }
+
+    // Answers those whose answer is at hand, under the machine's lock alone; whether all of them are answered. Where each
+    // was admitted before, which is so of those that are called in, the lock is not taken.
+    fn answer_all<R: Wait>(
+        &self,
+        rt: &R,
+        worker: &mut Worker<M, L>,
+        batch: &mut [Passage<M>],
+    ) -> bool {
+        if !batch
+            .iter()
+            .any(|passage| matches!(passage.standing, Standing::Comes))
+        {
+            return false;
+        }
+        let mut book = self.shared.lock(rt);
+        let mut all = true;
+        for passage in batch.iter_mut() {
+            all = passage.answer(&mut book, &mut worker.ticket) && all;
+        }
+        drop(book);
+        all
+    }
+
+    // Takes the steps of those that are admitted, or whose answer the machine holds, under both locks, and tells
+    // admission what each gave, before that is handed over: else a reply might come before its question is noted.
+    fn enter_all<R: Wait>(&self, rt: &R, worker: &mut Worker<M, L>, batch: &mut [Passage<M>]) {
         let mut admission = self.common.admission.lock(rt);
         let mut book = self.shared.lock(rt);
         for passage in batch.iter_mut() {

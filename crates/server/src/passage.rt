@@ -1,13 +1,15 @@
 //! Clients' messages on their way through the machine: each is read before the lock is taken, its step is taken while
-//! it is held, and what that gives is written behind it.
+//! it is held, and what that gives is written behind it. A message whose answer is at hand is answered at once
+//! (`answer`); only the others see whether they have to ask for admission (`ask`), and those that do are decided on
+//! (`enter`).
 ghost use Rattle.std.specs.Prelude.{◌≡◌, ◌↔◌, true, IsTrue, Some, None, IfOk, IfSome, IfNone, MatchOption, OnOk, IfErr};
-ghost use Rattle.std.specs.Bool.{OnTrue};
+ghost use Rattle.std.specs.Bool.{OnTrue, OnFalse};
 ghost use Rattle.runs.specs.States.{Client, told_moment};
 ghost use Rattle.events.specs.Views.{event_view};
 ghost use Rattle.typed.specs.Events.{ReadAs};
 ghost use Rattle.pool.specs.Closings.{IsEventRefused};
-ghost use Rattle.server.specs.Entries.{StandsAs, StandsBy, IsLetBy, is_here, is_passed, is_too_long, told};
-ghost use Rattle.server.specs.Passages.{Enters, IsAnswered, IsClients, IsOfQuery, TakesStep, asks_server};
+ghost use Rattle.server.specs.Entries.{StandsAs, StandsBy, IsLetBy, first_standing, is_here, is_passed, is_too_long, told};
+ghost use Rattle.server.specs.Passages.{AnswersAtOnce, Enters, IsAnswered, IsClients, IsOfQuery, TakesStep, asks_server};
 
 use crate::query::{Asker, Query};
 use crate::shared_admission::{Question, SharedAdmission};
@@ -16,7 +18,7 @@ use admission::{Admission, Decision};
 use book::{Answering, Book, Machine, Ticket};
 use events::{Actions, Event};
 use memory::Starved;
-use pool::{PoolError, step_locked};
+use pool::{PoolError, answer_locked, step_locked};
 use std::alloc::Global;
 use std::marker::{Model, PhantomData};
 use std::sync::ledger::Ledger;
@@ -29,7 +31,11 @@ const MOST_HELD_BYTES: usize = 512;
 /// How a message stands in admission.
 #[derive(Clone, Copy)]
 pub(crate) enum Standing {
-    /// It needs none: it is no query, or one whose answer the machine holds.
+    /// It is still to be seen whether it has to ask for it: its answer may be at hand.
+    Comes,
+    /// It never asks: its answer was at hand, and its step is taken.
+    Answered,
+    /// It needs none: it is no query, or one whose answer the machine holds. Its step is still to be taken.
     Free,
     /// It is still to ask for it.
     Asks(Question),
@@ -136,25 +142,24 @@ impl<M: Machine<Event = TypedEvent, Out = TypedActions>> Model for Passage<M> {
 }
 
 impl<M: Machine<Event = TypedEvent, Out = TypedActions>> Passage<M> {
-    /// A client's message, read: it comes at this moment. It asks for admission where it is a query, unless that
-    /// question was admitted before.
+    /// A client's message, read: it comes at this moment. Unless that question was admitted before, it is still to be
+    /// seen whether it has to ask for admission.
     pub fn read(
         alloc: Global,
-        admission: &SharedAdmission,
         moment: u64,
         query: Query,
         admitted: Option<Question>,
         came: Option<Arrival>,
     ) -> Result<Passage<M>, Starved>
         ensures event { IfOk result (λ p. p.event ≡ Some (Client moment query.asker.client query.asker.way query.bytes)) }
-        ensures standing { IfOk result (λ p. StandsAs admission.now.start admitted p.parsed p.standing) }
+        ensures standing { IfOk result (λ p. p.standing ≡ first_standing admitted) }
     {
         let event = query.into_event(moment);
         match read_event(alloc, &event) {
             Ok(Some(parsed)) => {
                 let standing = match admitted {
                     Some(question) => Standing::Admitted(question),
-                    None => admission.standing_of(parsed.parsed()),
+                    None => Standing::Comes,
                 };
                 Ok(Passage::of(event, parsed, standing, came))
             }
@@ -194,6 +199,16 @@ impl<M: Machine<Event = TypedEvent, Out = TypedActions>> Passage<M> {
                 machine: PhantomData,
             },
             _ => unreachable!(),
+        }
+    }
+
+    /// Sees whether it has to ask for admission, where that is still to be seen: each query has to, and nothing else.
+    pub fn ask(&mut self, admission: &SharedAdmission)
+        ensures stands { StandsAs admission.now.start self.old.parsed self.old.standing self.new.standing }
+        ensures rest { self.new ≡ record self.old { standing = self.new.standing } }
+    {
+        if matches!(self.standing, Standing::Comes) {
+            self.standing = admission.standing_of(self.parsed.parsed());
         }
     }
 
@@ -272,8 +287,25 @@ impl<M: Machine<Event = TypedEvent, Out = TypedActions>> Passage<M> {
 }
 
 impl<M: Answering<Event = TypedEvent, Out = TypedActions>> Passage<M> {
-    /// Asks for admission, where that is still to be done; whether its step is to be taken now. What admission drops is
-    /// answered all the same where the machine holds its answer.
+    /// The machine takes its step at once, where its answer is at hand and it has not asked for admission; whether it
+    /// did. It stands as answered from then on, with what the step gave: nothing, where that wanted memory.
+    pub fn answer<L: Ledger>(&mut self, book: &mut Book<M, L>, ticket: &mut Ticket<L>) -> bool
+        ensures none { OnFalse result ((self.new ≡ self.old) × (ticket.new ≡ ticket.old)) }
+        ensures answered { OnTrue result (AnswersAtOnce M.moves M.begins (M.has_answer book.old.state) ticket.old self.old self.new ticket.new) }
+    {
+        if !matches!(self.standing, Standing::Comes) {
+            return false;
+        }
+        let Some(given) = answer_locked(book, ticket, &self.parsed) else {
+            return false;
+        };
+        self.standing = Standing::Answered;
+        self.given = given.ok();
+        true
+    }
+
+    /// Asks for admission, where it has to; whether its step is to be taken now. What admission drops is answered all
+    /// the same where the machine holds its answer.
     pub fn enter<L: Ledger>(&mut self, admission: &mut Admission<Query>, book: &Book<M, L>) -> bool
         ensures passed { result ≡ is_passed self.new.standing }
         ensures here { OnTrue result (self.new ≡ record self.old { standing = self.new.standing }) }
