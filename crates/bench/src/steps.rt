@@ -9,7 +9,7 @@ use rdata::Addr;
 use std::fmt;
 use std::rt::Runtime;
 use std::time::Instant;
-use typed::{TypedEvent, read_event};
+use typed::{TypedActions, TypedEvent, read_event};
 use wire::{TCP_LIMIT, Via};
 use zone::Zone;
 
@@ -123,6 +123,14 @@ pub fn step_all<A: Heap>(
     Ok(sum)
 }
 
+// A step as a server takes it: at once where the answer shows at once.
+fn serve<A: Heap>(core: &mut Core<A>, event: &TypedEvent<A>) -> Result<TypedActions<A>, Starved> {
+    match core.answer(event) {
+        Some(actions) => actions,
+        None => core.step_typed(event),
+    }
+}
+
 /// An event that was read before, and comes so often: how many steps give an action.
 pub fn step_all_read<A: Heap>(
     core: &mut Core<A>,
@@ -131,7 +139,7 @@ pub fn step_all_read<A: Heap>(
 ) -> Result<u64, Starved> {
     let mut sum = 0u64;
     for _ in 0..rounds {
-        let actions = core.step_typed(event)?;
+        let actions = serve(core, event)?;
         sum = sum.wrapping_add(u64::from(actions.first.is_some()));
     }
     Ok(sum)

@@ -1,4 +1,4 @@
-//! Steps on bytes, and steps on what was read of them: both give the same actions.
+//! Steps on bytes, and steps on what was read of them, at once where the answer is at hand: both give the same actions.
 use crate::engine_tests::world_tests::{
     ALIAS, APP, APP_TO_EXAMPLE, DENIED, FOUND, GONE, GONE_TO_EXAMPLE, TO_EXAMPLE, TO_LAB, WWW,
 };
@@ -8,7 +8,7 @@ use events::{Actions, Event, Path};
 use memory::{Heap, Starved};
 use rdata::Addr;
 use std::test::Fail;
-use typed::{read_event, write_actions};
+use typed::{TypedActions, TypedEvent, read_event, write_actions};
 use wire::{Via, Writer};
 
 const SETTINGS: Settings = Settings {
@@ -79,6 +79,8 @@ struct Both<A: Heap> {
     ask: Ask,
     // How many steps gave an action.
     spoken: u32,
+    // How many were taken at once.
+    at_once: u32,
 }
 
 fn core<A: Heap>(alloc: A) -> Result<Core<A>, Starved> {
@@ -103,6 +105,7 @@ impl<A: Heap> Both<A> {
                 id: [0, 0],
             },
             spoken: 0,
+            at_once: 0,
         })
     }
 
@@ -114,9 +117,20 @@ impl<A: Heap> Both<A> {
                 more_due: false,
             }),
             Some(event) => {
-                let given = self.by_parts.step_typed(&event)?;
+                let given = self.step_parts(&event)?;
                 write_actions(self.alloc, &mut self.writer, &given)
             }
+        }
+    }
+
+    // Its step on what was read.
+    fn step_parts(&mut self, event: &TypedEvent<A>) -> Result<TypedActions<A>, Starved> {
+        match self.by_parts.answer(event) {
+            Some(given) => {
+                self.at_once = self.at_once.saturating_add(1);
+                given
+            }
+            None => self.by_parts.step_typed(event),
         }
     }
 
@@ -172,21 +186,24 @@ impl<A: Heap> Both<A> {
     }
 }
 
-// Where the two differ on events that are made from a seed, and how many steps gave an action.
-fn differing_of<A: Heap>(alloc: A, seed: u64) -> Result<(Option<u32>, u32), Starved> {
+// Where the two differ on events that are made from a seed, how many steps gave an action, and how many were taken at
+// once.
+fn differing_of<A: Heap>(alloc: A, seed: u64) -> Result<(Option<u32>, u32, u32), Starved> {
     let mut both = Both::new(alloc)?;
     let place = both.first_differing(&mut Dice { state: seed })?;
-    Ok((place, both.spoken))
+    Ok((place, both.spoken, both.at_once))
 }
 
 #[test]
 fn both_steps_give_the_same(rt: HostRuntime) -> Result<(), Fail> {
-    let mut spoken = 0u32;
+    let (mut spoken, mut at_once) = (0u32, 0u32);
     for seed in 0..200u64 {
-        let (place, actions) = differing_of(rt.alloc(), seed)?;
+        let (place, actions, answers) = differing_of(rt.alloc(), seed)?;
         assert_eq!(rt; place, None, "seed {seed}");
         spoken = spoken.saturating_add(actions);
+        at_once = at_once.saturating_add(answers);
     }
     assert!(rt; spoken > 4_000, "only {spoken} actions");
+    assert!(rt; at_once > 0, "no answer at once");
     Ok(())
 }
