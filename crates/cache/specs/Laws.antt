@@ -1,11 +1,13 @@
 -- Laws of keys' equality and hash.
-use Rattle.std.specs.Prelude.{◌≡◌, true, ◌&&◌}
+use Rattle.std.specs.Prelude.{◌≡◌, true, ◌&&◌, nat_eq}
 use Rattle.std.proofs.Common.{refl, ap, subst, eqb-true, eq-eqb}
 use Rattle.std.specs.Cmp.{IsPartialEquivalence, IsEquivalence, partial_equiv_from_equiv, decided, first_so, second_so}
+use Rattle.std.specs.Hash as fed
 use Rattle.std.specs.Hash.{HashWrites}
 use Rattle.dname.specs.Labels.{same_name}
-use Rattle.dname.specs.Laws.{fed_name, same_name-exact, same_name-refl}
+use Rattle.dname.specs.Laws.{same_name-exact, same_name-refl}
 use Rattle.lru_laws.specs.Orders.{IsExact}
+use Rattle.cache.specs.Hashed.{HashedKey, plain, same_hashed}
 use Rattle.cache.specs.Keys.{Slot, Kind, NameError, Key, same_slot, same_key}
 
 same_slot-exact : (a b : Slot) → same_slot a b ≡ true → a ≡ b
@@ -30,15 +32,24 @@ same_key-refl a = λ i. same_name-refl a.name i && same_slot-refl a.slot i
 pub same_key_exact : IsExact same_key
 same_key_exact = record { equal = same_key-exact; refl = same_key-refl }
 
-pub same_key_equiv : IsEquivalence same_key
-same_key_equiv = decided same_key (λ a b. (same_key-exact a b, λ e. subst (λ k. same_key a k ≡ true) e (same_key-refl a)))
+same_hashed-exact : (a b : HashedKey) → same_hashed a b ≡ true → a ≡ b
+same_hashed-exact a b h =
+    let k = same_key-exact (plain a) (plain b) (first_so (same_key (plain a) (plain b)) (nat_eq a.hash b.hash) h) in
+    let n = eqb-true a.hash b.hash (second_so (same_key (plain a) (plain b)) (nat_eq a.hash b.hash) h) in
+    λ i. record { name = (k i).name; slot = (k i).slot; hash = n i }
 
-pub same_key_per : IsPartialEquivalence same_key
-same_key_per = partial_equiv_from_equiv same_key_equiv
+same_hashed-refl : (a : HashedKey) → same_hashed a a ≡ true
+same_hashed-refl a = λ i. same_key-refl (plain a) i && eq-eqb a.hash a.hash refl i
+
+pub same_hashed_equiv : IsEquivalence same_hashed
+same_hashed_equiv = decided same_hashed (λ a b. (same_hashed-exact a b, λ e. subst (λ k. same_hashed a k ≡ true) e (same_hashed-refl a)))
+
+pub same_hashed_per : IsPartialEquivalence same_hashed
+same_hashed_per = partial_equiv_from_equiv same_hashed_equiv
 
 -- All entries of one name have one hash, so that a look-up finds them in one place.
-abbrev pub fed_key : Key → HashWrites
-fed_key k = fed_name k.name
+abbrev pub fed_hash : HashedKey → HashWrites
+fed_hash k = fed.u64 k.hash
 
-pub same_key_fed : (a b : Key) → same_key a b ≡ true → fed_key a ≡ fed_key b
-same_key_fed a b h = ap fed_key (same_key-exact a b h)
+pub same_hashed_fed : (a b : HashedKey) → same_hashed a b ≡ true → fed_hash a ≡ fed_hash b
+same_hashed_fed a b h = ap fed_hash (same_hashed-exact a b h)

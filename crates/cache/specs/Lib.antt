@@ -7,6 +7,7 @@ pub mod Aging
 pub mod Failures
 -- Kept: invariants of the code's values, and how contracts see them.
 pub mod Forms
+pub mod Hashed
 pub mod Kinds
 pub mod Laws
 pub mod FailureLaws

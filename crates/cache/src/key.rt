@@ -1,9 +1,10 @@
 //! The key under which a link is cached (RFC 2308, section 5).
 ghost use Rattle.std.specs.Prelude.{◌≡◌, true};
-ghost use Rattle.cache.specs.Keys.{same_slot, same_key, slot_for};
+ghost use Rattle.cache.specs.Keys.{same_slot, slot_for};
 ghost use Rattle.rdata.specs.Types.{type_number};
 ghost use Rattle.cache.specs.Kinds.{slot_view};
-ghost use Rattle.cache.specs.Laws.{same_key_per, same_key_equiv, same_key_fed, fed_key};
+ghost use Rattle.cache.specs.Hashed.{same_hashed};
+ghost use Rattle.cache.specs.Laws.{same_hashed_per, same_hashed_equiv, same_hashed_fed, fed_hash};
 ghost use Rattle.zone.specs.Views.{link_view};
 
 use dname::Name;
@@ -46,44 +47,46 @@ impl Slot {
     }
 }
 
-/// A name, and which of its links.
+/// A name, which of its links, and the hash of the name.
 #[derive(Drop)]
 pub struct Key<A: Allocator = Global> {
     /// The name in the question, to which the link is an answer.
     pub name: Name<A>,
     /// Which link of that name.
     pub slot: Slot,
+    /// The hash of the name: entries are found by it alone.
+    pub hash: u64,
 }
 
 impl<A: Allocator> Model for Key<A> {
-    ghost use Rattle.cache.specs.Keys.{Key as KeySpec};
+    ghost use Rattle.cache.specs.Hashed.{HashedKey};
     ghost use Rattle.cache.specs.Kinds.{slot_view};
 
-    ghost Value = { KeySpec };
+    ghost Value = { HashedKey };
 
-    ghost view = { λ k. record { name = k.name; slot = slot_view k.slot } };
+    ghost view = { λ k. record { name = k.name; slot = slot_view k.slot; hash = k.hash } };
 }
 
 impl<A: Allocator> PartialEq for Key<A> {
-    ghost eq = { same_key };
+    ghost eq = { same_hashed };
 
-    ghost laws = { same_key_per };
+    ghost laws = { same_hashed_per };
 
     fn eq(&self, other: &Key<A>) -> bool {
-        self.slot.is(other.slot) && self.name == other.name
+        self.hash == other.hash && self.slot.is(other.slot) && self.name == other.name
     }
 }
 
 impl<A: Allocator> Eq for Key<A> {
-    ghost laws = { same_key_equiv };
+    ghost laws = { same_hashed_equiv };
 }
 
 impl<A: Allocator> Hash for Key<A> {
-    ghost hash_input = { fed_key };
+    ghost hash_input = { fed_hash };
 
-    ghost respects_eq = { same_key_fed };
+    ghost respects_eq = { same_hashed_fed };
 
     fn hash<H: Hasher>(&self, state: &mut H) {
-        self.name.hash(state);
+        state.write_u64(self.hash);
     }
 }

@@ -27,7 +27,9 @@
 
 mod cache;
 mod denial;
+mod entries;
 mod failures;
+mod finding;
 mod hit;
 mod key;
 mod laws;
@@ -40,6 +42,8 @@ pub use laws::{aging_law, failures_law, given_law, members_law};
 // A crate can name a cache in a contract only if the types of its fields are exported.
 #[doc(hidden)]
 pub use denial::Denial;
+#[doc(hidden)]
+pub use entries::Entries;
 #[doc(hidden)]
 pub use failures::FailedAsk;
 #[doc(hidden)]

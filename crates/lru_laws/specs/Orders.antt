@@ -47,6 +47,11 @@ module _ {K V : Type 0} (same : K → K → Bool) where
   abbrev pub IsWithin : ℕ → K → V → List (K × V) → Type 0
   IsWithin n k v es = lookup (same k) (take n es) ≡ Some v
 
+module _ {K L V : Type 0} (f : K → L) where
+  -- The same entries, each under what f makes of its key.
+  abbrev pub rekeyed : List (K × V) → List (L × V)
+  rekeyed es = map (λ e. (f e.0, e.1)) es
+
 module _ {K V W : Type 0} (f : K → V → W) where
   -- The same entries, each with what f makes of its key and its value.
   abbrev pub mapped : List (K × V) → List (K × W)

@@ -1,8 +1,0 @@
-use Rattle.std.proofs.lemmas.Result.{on_ok_weaker}
-use Rattle.cache.proofs.Unpacked.{stored_shows}
-use Rattle.cache.proofs.cache.Cache.store.Goals as goal
-
-pub returns-clause-ok : goal.returns-clause-ok
-returns-clause-ok g c =
-    on_ok_weaker c.keep_for.result
-    (λ is. stored_shows c.args.self.now c.self.inside.entries c.self.view_is c.args.key c.args.packed c.ttl-ttl.result c.keep_for.new.entries is c.ttl-ttl.ensures) c.keep_for.ensures.ok
