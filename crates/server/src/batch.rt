@@ -23,11 +23,11 @@ use wire::Via;
 const MOST_BATCHES: u32 = 32;
 
 impl<M: Answering<Event = TypedEvent, Out = TypedActions>, L: Ledger> Context<'_, M, L> {
-    /// A client's datagram joins the batch.
-    pub fn take_datagram<R: Clock>(
+    /// A client's datagram that came at this moment joins the batch.
+    pub fn take_datagram(
         &self,
-        rt: &R,
         worker: &mut Worker<M, L>,
+        moment: u64,
         from: Endpoint,
         bytes: &[u8],
     )
@@ -39,7 +39,7 @@ impl<M: Answering<Event = TypedEvent, Out = TypedActions>, L: Ledger> Context<'_
         };
         match worker.in_room(bytes) {
             Ok(bytes) => {
-                self.take(rt, worker, asker, bytes);
+                self.take(worker, moment, asker, bytes);
             }
             Err(_) => self.common.ends.count(Outcome::MemoryRefused),
         }
@@ -59,18 +59,12 @@ impl<M: Answering<Event = TypedEvent, Out = TypedActions>, L: Ledger> Context<'_
             client: number,
             way: Via::Tcp,
         };
-        self.take(rt, worker, asker, bytes) && self.put_batch(rt, worker)
+        self.take(worker, self.common.moment(rt), asker, bytes) && self.put_batch(rt, worker)
     }
 
-    // What a client sent joins the batch; whether it could. A question that equals others which are under way will wait
-    // in admission, whether they came in datagrams or on streams, and however they write the name.
-    fn take<R: Clock>(
-        &self,
-        rt: &R,
-        worker: &mut Worker<M, L>,
-        asker: Asker,
-        bytes: Vec<u8>,
-    ) -> bool
+    // What a client sent joins the batch at this moment; whether it could. A question that equals others which are under
+    // way will wait in admission, whether they came in datagrams or on streams, and however they write the name.
+    fn take(&self, worker: &mut Worker<M, L>, moment: u64, asker: Asker, bytes: Vec<u8>) -> bool
         requires { length bytes.items ≤ 65535 }
     {
         let query = Query {
@@ -78,7 +72,6 @@ impl<M: Answering<Event = TypedEvent, Out = TypedActions>, L: Ledger> Context<'_
             bytes: Bytes::new(bytes),
         };
         self.common.count_query(&query);
-        let moment = self.common.moment(rt);
         self.join(worker, moment, query, None, moment)
     }
 
@@ -257,7 +250,7 @@ impl<M: Answering<Event = TypedEvent, Out = TypedActions>, L: Ledger> Context<'_
         match passage.write(self.common.alloc, &mut worker.writer) {
             Ok(Some(actions)) => {
                 let speaks = self.send(rt, worker, passage, &actions);
-                drop(actions);
+                worker.keep_sent(actions);
                 speaks
             }
             Ok(None) | Err(_) => {

@@ -29,25 +29,26 @@ pub(crate) fn take_datagrams<
             return;
         }
         if let Some((count, from)) = next_datagram(rt, context.common.ends, &mut buffer) {
-            context.take_datagram(rt, worker, from, &buffer[..count]);
-            take_others(rt, context, worker, &mut buffer);
+            let moment = context.common.moment(rt);
+            context.take_datagram(worker, moment, from, &buffer[..count]);
+            take_others(context, worker, moment, &mut buffer);
             context.put_batch(rt, worker);
         }
     }
 }
 
-// Takes the datagrams that are there already, as many as one batch has.
-fn take_others<M: Answering<Event = TypedEvent, Out = TypedActions>, L: Ledger, R: Clock>(
-    rt: &R,
+// Takes the datagrams that are there already at this moment, as many as one batch has.
+fn take_others<M: Answering<Event = TypedEvent, Out = TypedActions>, L: Ledger>(
     context: &Context<'_, M, L>,
     worker: &mut Worker<M, L>,
+    moment: u64,
     buffer: &mut [u8; MOST_BYTES],
 ) {
     for _ in 1..MOST_AT_ONCE {
         let Some((count, from)) = datagram_at_hand(&context.common.ends.clients, buffer) else {
             return;
         };
-        context.take_datagram(rt, worker, from, &buffer[..count]);
+        context.take_datagram(worker, moment, from, &buffer[..count]);
     }
 }
 

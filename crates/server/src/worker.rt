@@ -4,6 +4,7 @@ ghost use Rattle.std.specs.Prelude.{◌≡◌, IfOk};
 use crate::passage::Passage;
 use crate::query::Query;
 use book::{Machine, Ticket};
+use events::{Action, Actions};
 use memory::Starved;
 use std::alloc::Global;
 use std::sync::ledger::Ledger;
@@ -52,13 +53,28 @@ impl<M: Machine<Event = TypedEvent, Out = TypedActions>, L: Ledger> Worker<M, L>
         Ok(room)
     }
 
-    /// Keeps the memory of a message for the next ones, unless it is much: a short message may wait in it.
+    /// Keeps the memory of a client's message for the next ones, unless it is much: a short message may wait in it.
     pub fn keep_room(&mut self, query: Query) {
         let room = query.bytes.into_items();
         if self.rooms.len() < MOST_AT_ONCE && room.capacity() <= MOST_ROOM_BYTES {
             let _ = self.rooms.push(room);
         } else {
             drop(room);
+        }
+    }
+
+    /// Keeps the memory of a reply that was sent for the next one, unless it is much.
+    pub fn keep_sent(&mut self, actions: Actions) {
+        match actions.first {
+            Some(Action::Reply { bytes, .. }) => {
+                let room = bytes.into_items();
+                if room.capacity() <= MOST_ROOM_BYTES {
+                    self.writer.reuse(room);
+                } else {
+                    drop(room);
+                }
+            }
+            other => drop(other),
         }
     }
 }

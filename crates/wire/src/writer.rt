@@ -349,6 +349,17 @@ impl<A: Heap> Writer<A> {
         self.put_bytes(&[i, d, high, low, q, r, a, b, n, o, x, y])
     }
 
+    /// Writes the next message in this memory, of a message that was sent, where the writer has none.
+    pub fn reuse(&mut self, room: Vec<u8, A>)
+        ensures { (self.new).notes ≡ (self.old).notes }
+    {
+        if self.bytes.capacity() == 0 {
+            drop(mem::replace(&mut self.bytes, room));
+        } else {
+            drop(room);
+        }
+    }
+
     // Begins another message.
     pub(crate) fn begin_message(&mut self) -> Result<(), Starved>
         ensures { OnOk result (self.new ≡ empty) }
