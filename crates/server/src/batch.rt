@@ -155,11 +155,12 @@ impl<M: Answering<Event = TypedEvent, Out = TypedActions>, L: Ledger> Context<'_
         for passage in batch.iter() {
             answers = self.hand_over(rt, worker, passage) && answers;
         }
-        for passage in batch.drain(..) {
-            if let Some(query) = passage.into_query() {
+        for passage in batch.iter_mut() {
+            if let Some(query) = passage.take_query() {
                 worker.keep_room(query);
             }
         }
+        batch.clear();
         worker.batch = batch;
         answers
     }

@@ -267,22 +267,11 @@ impl<M: Machine<Event = TypedEvent, Out = TypedActions>> Passage<M> {
         }
     }
 
-    /// What came, if it does not wait in admission.
-    pub fn into_query(self) -> Option<Query>
-        ensures { MatchOption result (self.event ≡ None) (IsOfQuery self.event) }
+    /// What came, if it does not wait in admission: it is not here any more.
+    pub fn take_query(&mut self) -> Option<Query>
+        ensures { MatchOption result (self.old.event ≡ None) (IsOfQuery self.old.event) }
     {
-        let Passage {
-            standing: _,
-            came: _,
-            moment: _,
-            query,
-            parsed,
-            given,
-            machine: _,
-        } = self;
-        drop(parsed);
-        drop(given);
-        query
+        self.query.take()
     }
 }
 
