@@ -1,7 +1,8 @@
 //! The local zones, and the look-up in the one with the longest origin over a name.
-ghost use Rattle.std.specs.Prelude.{◌≡◌, ◌≤◌, ◌+◌, length, Some, IfOk, MatchResult, false};
+ghost use Rattle.std.specs.Prelude.{◌≡◌, ◌≤◌, ◌+◌, length, Some, IfOk, IfSome, IfNone, MatchResult, false};
 ghost use Rattle.std.specs.Option.{option_copied};
 ghost use Rattle.rdata.specs.Types.{type_number};
+ghost use Rattle.zone.specs.Look.{NotHere};
 ghost use Rattle.authority.specs.Answers.{local_view};
 ghost use Rattle.authority.specs.Catalogs.{zone_over, looked, among, chosen, has_twins, AreZones, IsLooked};
 ghost use Rattle.authority.specs.CatalogFaults.{catalog_fault_number, catalog_fault_text, CatalogRefuses};
@@ -132,6 +133,30 @@ impl<A: Heap> Catalog<A> {
     {
         let (local, _) = self.look_counted(alloc, name, kind)?;
         Ok(local)
+    }
+
+    /// The result of `look`, where a zone is over the name; none where no zone is, as `look` gives `NotHere`.
+    pub fn look_here<'a>(
+        &'a self,
+        alloc: A,
+        name: &Name<A>,
+        kind: RType,
+    ) -> Option<Result<Local<A>, Starved>>
+        ensures none { IfNone result ((looked self.now name.now (type_number kind) ≡ NotHere) × IsLooked self.now name.now (type_number kind) NotHere) }
+        ensures value { IfSome result (λ r. IfOk r (λ l. local_view l ≡ looked self.now name.now (type_number kind))) }
+        ensures relation { IfSome result (λ r. IfOk r (λ l. IsLooked self.now name.now (type_number kind) (local_view l))) }
+    {
+        let all: Option<&'a [Name<A>]> = None;
+        match zone_over(&self.zones, &self.places, all, name) {
+            None => None,
+            Some(zone) => {
+                zone_keeps_rules(zone);
+                match look_counted(alloc, zone, zone.denial(), name, kind) {
+                    Ok((local, _)) => Some(Ok(local)),
+                    Err(starved) => Some(Err(starved)),
+                }
+            }
+        }
     }
 
     /// The result of `look`, and how many nodes were met in the tree of the zone that answers, from the name up to the

@@ -59,18 +59,19 @@ pub fn find_end<S: BuildHasher + Drop, A: Heap>(
 ) -> Option<Result<Taken<A>, Starved>>
     ensures { MatchOption result (stores.new ≡ stores.old) (IfGiven (λ l. IsFoundEnd home.now now name.now (type_number kind) stores.old l stores.new)) }
 {
-    match home.catalog().look(alloc, name, kind) {
-        Ok(Local::Link(link)) => match local_end(name, link) {
+    match home.catalog().look_here(alloc, name, kind) {
+        None => cached_end(name, kind, stores, now),
+        Some(Ok(Local::Link(link))) => match local_end(name, link) {
             Some(end) => Some(Ok(end)),
             None => None,
         },
-        Ok(Local::Cut(at, servers, glue)) => {
+        Some(Ok(Local::Cut(at, servers, glue))) => {
             drop(at);
             drop(servers);
             drop(glue);
             cached_end(name, kind, stores, now)
         }
-        Ok(Local::NotHere) => cached_end(name, kind, stores, now),
-        Err(_) => None,
+        Some(Ok(Local::NotHere)) => cached_end(name, kind, stores, now),
+        Some(Err(_)) => None,
     }
 }
