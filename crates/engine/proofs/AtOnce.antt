@@ -1,5 +1,5 @@
 -- A query that is answered at once, by what is at hand.
-use Rattle.std.proofs.Common.{◌≡◌, ◌≤◌, inr, ℕ, zero, true, Option, Some, None, Result, Ok, Err, List, [], refl, sym, subst, IfOk, arith}
+use Rattle.std.proofs.Common.{◌≡◌, ◌≤◌, inr, ℕ, zero, true, Option, Some, None, is_some, Result, Ok, Err, List, [], refl, sym, subst, IfOk, arith}
 use Rattle.std.specs.Prelude.{min, max, IfSome, MatchOption}
 use Rattle.memory.specs.declared.Starved.{Starved}
 use Rattle.limits.specs.Limits.{max_aliases}
@@ -14,15 +14,14 @@ use Rattle.runs.specs.States.{Event, Action, Client, Plain, State, AreApart, cli
 use Rattle.runs.specs.Messages.{outcome_of}
 use Rattle.runs.specs.Steps.{Ends}
 use Rattle.typed.specs.Events.{Parsed, ReadAs, HasBytes}
-use Rattle.typed.specs.declared.action.TypedAction.{TypedAction}
 use Rattle.typed.specs.declared.action.TypedActions.{TypedActions}
+use Rattle.typed.specs.Views.{said_listed}
 use Rattle.engine.specs.AtHand.{HasEnd, HasAnswer, IsAnsweredNow, IsAnsweredAt}
 use Rattle.engine.specs.Histories.{written_of, TypedMoves}
 use Rattle.engine.specs.Promises.{Steps}
-use Rattle.engine.specs.Replies.{alone}
 use Rattle.engine.specs.ResolverStates.{IsSound}
 use Rattle.engine.specs.Turns.{Turns}
-use Rattle.engine.proofs.Called.{lost_after, lost_work, begins_known, resolved, handles_query, turns_gone}
+use Rattle.engine.proofs.Called.{lost_after, lost_work, begins_known, resolved, handles_query, turns_handled, turns_gone}
 use Rattle.engine.proofs.Lift.{halts_same}
 use Rattle.engine.proofs.Stepped.{stepped, stepped_is_sound}
 
@@ -45,13 +44,14 @@ module _ (s : State) (client : ℕ) (way : Via) (q : Query Plain) (last : Taken)
     handled = lost_work s q mid wants (lost_after s mid q (Done [] last) known.over stores mid sound refl known.advances (halts_same mid mid refl));
   }
 
-  pub answered_now : {A : Type 0} (r : Result (TypedAction A) Starved)
-      → IfOk r (λ a. Ends mid (client_query client way q) s.opened (outcome_of s.clock [] last) stores (alone a) mid) → IsAnsweredNow s client way q r mid
-  answered_now (Ok a) ends =
+  pub answered_now : {A : Type 0} (r : Result (TypedActions A) Starved)
+      → IfOk r (λ said. Ends mid (client_query client way q) s.opened (outcome_of s.clock [] last) stores (said_listed said.first said.more_due) mid) → IsAnsweredNow s client way q r mid
+  answered_now (Ok said) ends =
       let who = client_query client way q in
+      let out = said_listed said.first said.more_due in
       record {
         at_hand = at_hand;
-        handled = handles_query s client way q (alone a) mid (resolved s who (alone a) mid wants (begins_known s mid who [] last known.over stores (alone a) mid sound refl refl known.advances ends));
+        handled = handles_query s client way q out mid (resolved s who out mid wants (begins_known s mid who [] last known.over stores out mid sound refl refl known.advances ends));
       }
   answered_now (Err e) ends = gone_now e
 
@@ -61,11 +61,22 @@ module _ (s mid : State) (moment client : ℕ) (way : Via) (q : Query Plain) (he
   has_end : IsAtHand (mid.site).home mid.clock (type_number q.kind) (mid.stores).cache q.name max_aliases → HasEnd s (min moment latest) q
   has_end there = inr (subst (λ (z : State). IsAtHand (z.site).home z.clock (type_number q.kind) (z.stores).cache q.name max_aliases) heard there)
 
-  pub gone_at : {A B : Type 0} (e : Starved) (new : State) → IsAnsweredNow {A = A} mid client way q (Err e) new → IsAnsweredAt {A = B} s moment client way q (Err e) new
-  gone_at e new now = record {
+  answered_at : {A : Type 0} (r : Result (TypedActions A) Starved) (new : State) → IsAnsweredNow mid client way q r new → IsAnsweredAt s moment client way q r new
+  answered_at (Ok said) new now =
+      let out = said_listed said.first said.more_due in
+      record {
+        has = has_end now.at_hand;
+        turns = λ bytes asks. subst (λ (z : State). Turns z (Client moment client way bytes) (Some out) new) heard (turns_handled mid moment client way bytes (request.Query q) out new asks now.handled);
+      }
+  answered_at (Err e) new now = record {
     has = has_end now.at_hand;
     turns = λ bytes asks. subst (λ (z : State). Turns z (Client moment client way bytes) None new) heard (turns_gone mid moment client way bytes (request.Query q) new asks now.handled);
   }
+
+  pub some_at : {A : Type 0} (o : Option (Result (TypedActions A) Starved)) (new : State) → is_some o ≡ true → MatchOption o (new ≡ mid) (λ r. IsAnsweredNow mid client way q r new)
+      → MatchOption o (new ≡ s) (λ r. IsAnsweredAt s moment client way q r new)
+  some_at None new some same = cc
+  some_at (Some r) new some now = answered_at r new now
 
 -- ---- as a step
 

@@ -13,12 +13,11 @@ use Rattle.runs.specs.States.{Event, Action, Reply, Turn, Site, State, Plain, la
 use Rattle.runs.specs.States as told
 use Rattle.runs.specs.Runs.{Run}
 use Rattle.typed.specs.Events.{Parsed, Client, Datagram, TcpReply, TcpFailed, Tick, ReadAs}
-use Rattle.typed.specs.declared.action.TypedAction.{TypedAction}
 use Rattle.typed.specs.declared.action.TypedActions.{TypedActions}
+use Rattle.typed.specs.Views.{said_listed}
 use Rattle.engine.specs.Calls.{Handles, IsGone}
 use Rattle.engine.specs.Histories.{written_of}
 use Rattle.engine.specs.Promises.{Steps}
-use Rattle.engine.specs.Replies.{alone}
 use Rattle.engine.specs.Turns.{Turns}
 
 -- A query that comes at this moment. One without RD is answered by the local zones alone (RFC 1034, section 4.3.1), and
@@ -51,9 +50,9 @@ AtHandAsksNobody =
     → Run site past s → ReadAs e parsed → HasAnswer s parsed → Steps s e (Some out) new → IsReplyAlone parsed out
 
 -- A recursive query is answered in the step in which it comes, as its answer is at hand, or is gone for want of memory.
-pub record IsAnsweredNow {A : Type 0} (s : State) (client : ℕ) (way : Via) (q : Query Plain) (r : Result (TypedAction A) Starved) (new : State) : Type 0 where
+pub record IsAnsweredNow {A : Type 0} (s : State) (client : ℕ) (way : Via) (q : Query Plain) (r : Result (TypedActions A) Starved) (new : State) : Type 0 where
   pub at_hand : IsAtHand (s.site).home s.clock (type_number q.kind) (s.stores).cache q.name max_aliases
-  pub handled : MatchResult r (λ a. Handles s client way (request.Query q) (alone a) new) (λ _. IsGone s (request.Query q) new)
+  pub handled : MatchResult r (λ said. Handles s client way (request.Query q) (said_listed said.first said.more_due) new) (λ _. IsGone s (request.Query q) new)
 
 -- The same of one that comes at this moment, whichever bytes it was read from.
 pub record IsAnsweredAt {A : Type 0} (s : State) (moment client : ℕ) (way : Via) (q : Query Plain) (r : Result (TypedActions A) Starved) (new : State) : Type 0 where

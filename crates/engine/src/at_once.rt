@@ -8,10 +8,9 @@ ghost use Rattle.runs.specs.Steps.{Ends};
 ghost use Rattle.open_queries.specs.Lookups.{HasNo};
 ghost use Rattle.events.specs.Plain.{plain};
 ghost use Rattle.typed.specs.Events.{ReadAs};
-ghost use Rattle.typed.specs.Views.{parsed_view};
+ghost use Rattle.typed.specs.Views.{parsed_view, said_listed};
 ghost use Rattle.engine.specs.AtHand.{HasAnswer, IsAnsweredAt, IsAnsweredNow};
 ghost use Rattle.engine.specs.Histories.{written_of};
-ghost use Rattle.engine.specs.Replies.{alone};
 ghost use Rattle.engine.specs.ResolverStates.{state_of, IsSound};
 ghost use Rattle.engine.specs.Turns.{Turns};
 
@@ -24,7 +23,7 @@ use limits::LATEST_MOMENT;
 use lookup::{Home, Stores, Taken};
 use memory::{Heap, Starved};
 use std::alloc::{AllocError, Allocator};
-use typed::{Parsed, TypedAction, TypedActions};
+use typed::{Parsed, TypedActions};
 use wire::Via;
 
 // The answer of a query at `now` milliseconds, where it shows at once. For the proof: it says of `answer_query` what the
@@ -73,17 +72,11 @@ impl<A: Heap> ResolverState<A> {
     {
         let clock = self.clock;
         self.advance_clock(moment.min(LATEST_MOMENT));
-        match self.answer_now(client, way, query) {
-            Some(Ok(reply)) => Some(Ok(TypedActions {
-                first: Some(reply),
-                more_due: false,
-            })),
-            Some(Err(starved)) => Some(Err(starved)),
-            None => {
-                self.clock = clock;
-                None
-            }
+        let said = self.answer_now(client, way, query);
+        if said.is_none() {
+            self.clock = clock;
         }
+        said
     }
 
     // The same at the moment of the clock.
@@ -92,7 +85,7 @@ impl<A: Heap> ResolverState<A> {
         client: u64,
         way: Via,
         query: &SharedQuery<A>,
-    ) -> Option<Result<TypedAction<A>, Starved>>
+    ) -> Option<Result<TypedActions<A>, Starved>>
         requires sound { IsSound (state_of self.old) }
         ensures { MatchOption result (state_of self.new ≡ state_of self.old) (λ r. IsAnsweredNow (state_of self.old) client way (plain query.now) r (state_of self.new)) }
     {
@@ -113,15 +106,20 @@ impl<A: Heap> ResolverState<A> {
         way: Via,
         query: &SharedQuery<A>,
         last: Taken<A>,
-    ) -> Result<TypedAction<A>, Starved>
+    ) -> Result<TypedActions<A>, Starved>
         requires { HasNo (state_of self.now).queries (state_of self.now).opened }
-        ensures { IfOk result (λ a. Ends (state_of self.now) (client_query client way (plain query.now)) self.now.opened (outcome_of self.now.clock [] last) self.now.stores (alone a) (state_of self.now)) }
+        ensures { IfOk result (λ said. Ends (state_of self.now) (client_query client way (plain query.now)) self.now.opened (outcome_of self.now.clock [] last) self.now.stores (said_listed said.first said.more_due) (state_of self.now)) }
     {
         let copy: Result<SharedQuery<A>, AllocError> = query.clone();
         match copy {
             Ok(query) => {
                 let client_query = ClientQuery { client, way, query };
-                self.answer(self.opened, client_query, Chain::new(self.alloc), last)
+                let reply =
+                    self.answer(self.opened, client_query, Chain::new(self.alloc), last)?;
+                Ok(TypedActions {
+                    first: Some(reply),
+                    more_due: false,
+                })
             }
             Err(_) => {
                 drop(last);

@@ -1,5 +1,5 @@
 //! A book behind a lock.
-ghost use Rattle.std.specs.Prelude.{◌≡◌, ◌+◌, IfOk, IfErr, IfSome, IfNone};
+ghost use Rattle.std.specs.Prelude.{◌≡◌, ◌+◌, IfOk, IfErr, OnErr, IfSome, IfNone};
 ghost use Rattle.book.specs.Books.{Owns, ticket_view};
 ghost use Rattle.pool.specs.declared.fault.PoolError.TheVariants.{Memory};
 ghost use Rattle.pool.specs.Closings.{Enters, EntersAndGives, IsEventRefused, AreSizes};
@@ -95,23 +95,21 @@ pub fn step_locked<M: Machine, L: Ledger, A: Heap>(
 }
 
 /// The same, where the machine's answer is there and that shows at once, as `Book::answer` says. None, and nothing
-/// changes, where it is not, and for a stranger's ticket. Refused with `Memory` alone: the step was taken then.
+/// changes, where it is not, and for a stranger's ticket. Out of memory, the step was taken.
 pub fn answer_locked<M: Answering, L: Ledger, A: Heap>(
     book: &mut Book<M, L, A>,
     ticket: &mut Ticket<L>,
     event: &M::Event,
-) -> Option<Result<M::Out, PoolError>>
+) -> Option<Result<M::Out, Starved>>
     ensures none { IfNone result ((book.new ≡ book.old) × (ticket.new ≡ ticket.old)) }
     ensures there { IfSome result (λ r. M.has_answer book.old.state event.now) }
     ensures ok { IfSome result (λ r. IfOk r (λ out. EntersAndGives M.moves M.begins ticket.old event.now out ticket.new)) }
-    ensures err { IfSome result (λ r. IfErr r (λ e. (e ≡ Memory) × (ticket.new ≡ ticket_view ticket.old.worker (ticket.old.count + 1)))) }
+    ensures err { IfSome result (λ r. OnErr r (ticket.new ≡ ticket_view ticket.old.worker (ticket.old.count + 1))) }
 {
-    if !book.owns(ticket) {
-        return None;
-    }
-    match book.answer(ticket, event)? {
-        Ok(out) => Some(Ok(out)),
-        Err(Starved) => Some(Err(PoolError::Memory)),
+    if book.owns(ticket) {
+        book.answer(ticket, event)
+    } else {
+        None
     }
 }
 

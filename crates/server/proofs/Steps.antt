@@ -23,7 +23,7 @@ refused_any t u Forgot h = absurd h
 
 module _ {S O : Type 0} (moves : S → Parsed → Result O Starved → S → Type 0) (begins : S → Type 0) where
   -- What is kept of a step was given, where it was not refused.
-  pub kept_of : (t u : TicketView) (parsed : Parsed) (r : Result O PoolError) (kept : Option O) → kept ≡ result_ok r
+  pub kept_of : {X : Type 0} (t u : TicketView) (parsed : Parsed) (r : Result O X) (kept : Option O) → kept ≡ result_ok r
       → IfOk r (λ out. EntersAndGives moves begins t parsed out u) → IfSome kept (IsGiven moves begins parsed)
   kept_of t u parsed (Ok out) kept is gives = subst (λ v. IfSome v (IsGiven moves begins parsed)) (sym is) (record { before = t; after = u; gives = gives })
   kept_of t u parsed (Err e) kept is gives = subst (λ v. IfSome v (IsGiven moves begins parsed)) (sym is) tt

@@ -1,12 +1,5 @@
+use Rattle.pool.proofs.Entered.{entered}
 use Rattle.pool.proofs.shared.answer_locked.Goals as goal
 
-pub returns-in-Ok-clause-ok : goal.returns-in-Ok-clause-ok
-returns-in-Ok-clause-ok g c =
-    let gives = rw c.in-Ok.is at c.in_ok-out.ensures.ok in
-    let takes = gives.takes in
-    record {
-      entry = gives.entry;
-      last = gives.last;
-      enters = record { worker = takes.worker; number = takes.number; event_is = takes.event_is; ticket = takes.ticket };
-      gave = gives.gave;
-    }
+pub returns-then-owns-clause-ok : goal.returns-then-owns-clause-ok
+returns-then-owns-clause-ok g c = entered g.M.Machine.moves g.M.Machine.begins c.args.book.now c.answer.new.self c.args.ticket.now c.answer.new.ticket c.args.event.now c.answer.result c.answer.ensures.ok
