@@ -114,8 +114,7 @@ impl<A: Heap> ResolverState<A> {
         match copy {
             Ok(query) => {
                 let client_query = ClientQuery { client, way, query };
-                let reply =
-                    self.answer(self.opened, client_query, Chain::new(self.alloc), last)?;
+                let reply = self.answer(self.opened, client_query, Chain::new(self.alloc), last)?;
                 Ok(TypedActions {
                     first: Some(reply),
                     more_due: false,
