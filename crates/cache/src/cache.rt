@@ -154,9 +154,9 @@ impl<S: BuildHasher + Drop, A: Heap> Cache<S, A> {
     {
         let spare = self.copy_of(name)?;
         let mut key = self.entries.key(spare, Slot::NameError);
-        let hit = self.entries.look_end(&mut key, kind, now)?;
+        let found = self.entries.look_end(&mut key, kind, now);
         self.put_back(key);
-        Ok(hit)
+        found
     }
 
     // A copy of this name, in the memory of the last one.

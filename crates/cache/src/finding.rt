@@ -92,7 +92,7 @@ impl<S: BuildHasher + Drop, A: Heap> Entries<S, A> {
     {
         match self.find_own(key, kind, now)? {
             Some(hit) => Ok(Some(hit)),
-            None => Ok(self.error_above(key, top, now)?),
+            None => self.error_above(key, top, now),
         }
     }
 
@@ -144,7 +144,7 @@ impl<S: BuildHasher + Drop, A: Heap> Entries<S, A> {
         }
         // 2. The alias, for another type.
         key.slot = Slot::Of(RType::Cname);
-        Ok(self.alias_at(key, now)?)
+        self.alias_at(key, now)
     }
 
     // The answer of the key's own name for this type that is no alias; the key becomes that of its entry.
@@ -159,7 +159,7 @@ impl<S: BuildHasher + Drop, A: Heap> Entries<S, A> {
             return Ok(Some(hit));
         }
         key.slot = Slot::Of(kind);
-        Ok(self.set_at(key, now)?)
+        self.set_at(key, now)
     }
 
     fn set_at(&self, key: &Key<A>, now: u64) -> Result<Option<Hit<A>>, Starved>

@@ -145,7 +145,7 @@ impl<S: BuildHasher + Drop, A: Heap> Stores<S, A> {
         ensures ok { IfOk result (λ o. MatchOption o (self.new ≡ self.old) (λ h. (top : NameSpec) → IsUsed top now name.now (type_number kind) self.old h self.new)) }
         ensures err { OnErr result (self.new ≡ self.old) }
     {
-        Ok(self.cache.look_end(name, kind, now)?)
+        self.cache.look_end(name, kind, now)
     }
 
     /// What `look` would give. No entry is used by that.

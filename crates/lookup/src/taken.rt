@@ -143,7 +143,7 @@ impl<A: Heap> Taken<A> {
     pub fn local(name: &Name<A>, link: Link<A>) -> Result<Taken<A>, Starved>
         ensures { IfOk result (λ t. t ≡ local_link name.now (link_view link)) }
     {
-        Ok(named(name, link, Source::Local)?)
+        named(name, link, Source::Local)
     }
 
     /// A hit of the cache.
@@ -151,7 +151,7 @@ impl<A: Heap> Taken<A> {
         ensures { IfOk result (λ t. t ≡ kept_link name.now hit) }
     {
         let Hit { link, ttl, since } = hit;
-        Ok(named(name, link, Source::Cached { ttl, since })?)
+        named(name, link, Source::Cached { ttl, since })
     }
 }
 

@@ -1,4 +1,4 @@
-use Rattle.std.proofs.Common.{List, ℕ, sym, ap, subst, ◌∙◌}
+use Rattle.std.proofs.Common.{List, ℕ, IfOk, sym, ap, subst, ◌∙◌}
 use Rattle.lru.specs.LruCache.{LruCache}
 use Rattle.rdata.specs.Types.{type_number}
 use Rattle.cache.specs.Keys.{Key}
@@ -11,7 +11,7 @@ returns-clause-ok g c =
     let t = type_number c.args.kind in
     let q = (c.key-key.result).name in
     let before = ((c.self.inside).entries).lru in
-    let hit = c.in_ok-hit.hit in
-    subst (λ (n : List (List ℕ)). Uses n t c.args.now c.args.self.now c.put_back.new.self hit) (ap (λ k. k.name) c.key-key.ensures ∙ c.in_ok-spare.ensures.name)
-    (subst (λ (d : LruCache Key Hit). Uses q t c.args.now d c.put_back.new.self hit) (c.self.view_is ∙ c.in_ok-spare.ensures.same)
-    (subst (λ (d : LruCache Key Hit). Uses q t c.args.now before d hit) (sym c.put_back.ensures) c.in_ok-hit.ensures.ok))
+    let found = c.look_end-found.result in
+    subst (λ (n : List (List ℕ)). IfOk found (Uses n t c.args.now c.args.self.now c.put_back.new.self)) (ap (λ k. k.name) c.key-key.ensures ∙ c.in_ok-spare.ensures.name)
+    (subst (λ (d : LruCache Key Hit). IfOk found (Uses q t c.args.now d c.put_back.new.self)) (c.self.view_is ∙ c.in_ok-spare.ensures.same)
+    (subst (λ (d : LruCache Key Hit). IfOk found (Uses q t c.args.now before d)) (sym c.put_back.ensures) c.look_end-found.ensures.ok))
