@@ -1,5 +1,6 @@
 -- A query that is answered at once, by what is at hand.
 use Rattle.std.proofs.Common.{◌≡◌, ◌≤◌, inr, ℕ, zero, true, Option, Some, None, is_some, Result, Ok, Err, List, [], refl, sym, subst, IfOk, arith}
+use Rattle.std.proofs.Math.Nat.{min-eq_left}
 use Rattle.std.specs.Prelude.{min, max, IfSome, MatchOption}
 use Rattle.memory.specs.declared.Starved.{Starved}
 use Rattle.limits.specs.Limits.{max_aliases}
@@ -7,7 +8,7 @@ use Rattle.rdata.specs.Types.{type_number}
 use Rattle.wire.specs.declared.via.Via.{Via}
 use Rattle.front.specs.declared.queries.Query.{Query}
 use Rattle.front.specs.declared.queries.Request.TheVariants as request
-use Rattle.resolution.specs.Jobs.{Stores, Taken, Done}
+use Rattle.resolution.specs.Jobs.{Stores, Taken, Done, job_at}
 use Rattle.lookup.specs.Held.{IsAtHand}
 use Rattle.iterate.specs.Beginnings.{AnswersWith}
 use Rattle.runs.specs.States.{Event, Action, Client, Plain, State, AreApart, client_query, recursive, job_for, latest, moved}
@@ -29,6 +30,11 @@ none_used : (most : ℕ) → zero ≤ most
 none_used most = omega arith
 
 -- ---- at the moment of the clock
+
+-- A clock is at most at the latest moment.
+pub known_at : (s : State) (q : Query Plain) (last : Taken) (stores : Stores) → IsSound s → AnswersWith (s.site).home s.clock (job_at q.name (type_number q.kind) (min s.clock latest)) s.stores last stores
+    → AnswersWith (s.site).home s.clock (job_for s.clock q) s.stores last stores
+known_at s q last stores sound known = subst (λ (n : ℕ). AnswersWith (s.site).home s.clock (job_at q.name (type_number q.kind) n) s.stores last stores) (min-eq_left sound.clock) known
 
 module _ (s : State) (client : ℕ) (way : Via) (q : Query Plain) (last : Taken) (stores : Stores) (sound : IsSound s) (wants : recursive q ≡ true)
     (known : AnswersWith (s.site).home s.clock (job_for s.clock q) s.stores last stores) where

@@ -1,8 +1,6 @@
 //! Queries that are answered at once: the answer is at hand, and shows without any work on the query.
-ghost use Rattle.std.specs.Prelude.{◌≡◌, ◌≤◌, [], IfOk, MatchOption};
-ghost use Rattle.lookup.specs.Ends.{IfGiven};
-ghost use Rattle.iterate.specs.Beginnings.{AnswersWith};
-ghost use Rattle.runs.specs.States.{latest, job_for, client_query, Event as EventSpec, moved};
+ghost use Rattle.std.specs.Prelude.{◌≡◌, [], IfOk, MatchOption};
+ghost use Rattle.runs.specs.States.{client_query, Event as EventSpec, moved};
 ghost use Rattle.runs.specs.Messages.{outcome_of};
 ghost use Rattle.runs.specs.Steps.{Ends};
 ghost use Rattle.open_queries.specs.Lookups.{HasNo};
@@ -14,32 +12,16 @@ ghost use Rattle.engine.specs.Histories.{written_of};
 ghost use Rattle.engine.specs.ResolverStates.{state_of, IsSound};
 ghost use Rattle.engine.specs.Turns.{Turns};
 
-use crate::hashing::StoreHasher;
 use crate::state::ResolverState;
 use events::ClientQuery;
 use front::{Query, Request, SharedQuery};
 use iterate::{Chain, answer_query};
 use limits::LATEST_MOMENT;
-use lookup::{Home, Stores, Taken};
+use lookup::Taken;
 use memory::{Heap, Starved};
-use std::alloc::{AllocError, Allocator};
+use std::alloc::AllocError;
 use typed::{Parsed, TypedActions};
 use wire::Via;
-
-// The answer of a query at `now` milliseconds, where it shows at once. For the proof: it says of `answer_query` what the
-// steps of a run speak of.
-fn answer_of<A: Heap>(
-    alloc: A,
-    query: &Query<A>,
-    home: &Home<A>,
-    stores: &mut Stores<StoreHasher, A>,
-    now: u64,
-) -> Option<Result<Taken<A>, Starved>>
-    requires { now ≤ latest }
-    ensures { MatchOption result (stores.new ≡ stores.old) (IfGiven (λ last. AnswersWith home.now now (job_for now (plain query.now)) stores.old last stores.new)) }
-{
-    answer_query(alloc, &query.name, query.kind, home, stores, now)
-}
 
 impl<A: Heap> ResolverState<A> {
     // Serves a client's query whose answer shows at once. None, and no change, where there is none.
@@ -89,10 +71,18 @@ impl<A: Heap> ResolverState<A> {
         requires sound { IsSound (state_of self.old) }
         ensures { MatchOption result (state_of self.new ≡ state_of self.old) (λ r. IsAnsweredNow (state_of self.old) client way (plain query.now) r (state_of self.new)) }
     {
-        if !query.start.wants_recursion() {
+        let asked: &Query<A> = query;
+        if !asked.start.wants_recursion() {
             return None;
         }
-        match answer_of(self.alloc, query, &self.home, &mut self.stores, self.clock) {
+        match answer_query(
+            self.alloc,
+            &asked.name,
+            asked.kind,
+            &self.home,
+            &mut self.stores,
+            self.clock,
+        ) {
             Some(Ok(last)) => Some(self.reply_with(client, way, query, last)),
             Some(Err(starved)) => Some(Err(starved)),
             None => None,
