@@ -59,27 +59,30 @@ const DENIAL: &[u8] =
 const REFERRAL: &[u8] =
     b"\x12\x34\x80\0\0\x01\0\0\0\x01\0\x01\x29www-with-a-name-that-takes-its-own-growth\x07example\0\0\x01\0\x01\xc0\x36\0\x02\0\x01\0\0\x01\x2c\0\x05\x02ns\xc0\x36\xc0\x4f\0\x01\0\x01\0\0\x01\x2c\0\x04\xc0\0\x02\x04";
 
-const EVENTS: &[Told] = &[
-    Told::Client(5, QUERY),
-    Told::Client(6, QUERY),
-    Told::Client(5, LETTERS),
-    Told::Client(5, OTHER_CLASS),
-    Told::Client(5, b""),
-    Told::Datagram(5, ANSWER),
-    Told::Datagram(6, ANSWER),
-    Told::Datagram(5, OTHER_ADDRESS),
-    Told::Datagram(5, OTHER_TTL),
-    Told::Datagram(5, DENIAL),
-    Told::Datagram(5, REFERRAL),
-    Told::TcpReply(5, ANSWER),
-    Told::TcpReply(5, b""),
-    Told::TcpFailed(5),
-    Told::Tick(5),
-    Told::Tick(6),
+const EVENTS: &[(&str, Told)] = &[
+    ("a query", Told::Client(5, QUERY)),
+    ("the query a millisecond later", Told::Client(6, QUERY)),
+    ("the query in other letters", Told::Client(5, LETTERS)),
+    ("the query of another class", Told::Client(5, OTHER_CLASS)),
+    ("no bytes of a client", Told::Client(5, b"")),
+    ("an answer", Told::Datagram(5, ANSWER)),
+    ("the answer a millisecond later", Told::Datagram(6, ANSWER)),
+    ("another address", Told::Datagram(5, OTHER_ADDRESS)),
+    ("another TTL", Told::Datagram(5, OTHER_TTL)),
+    ("a denial", Told::Datagram(5, DENIAL)),
+    ("a referral", Told::Datagram(5, REFERRAL)),
+    ("the answer over TCP", Told::TcpReply(5, ANSWER)),
+    ("no bytes over TCP", Told::TcpReply(5, b"")),
+    ("TCP that failed", Told::TcpFailed(5)),
+    ("a tick", Told::Tick(5)),
+    ("the tick a millisecond later", Told::Tick(6)),
 ];
 
-// Datagrams that reply to no question: no message, and a query.
-const NO_REPLIES: &[Told] = &[Told::Datagram(5, b""), Told::Datagram(5, QUERY)];
+// Datagrams that reply to no question.
+const NO_REPLIES: &[(&str, Told)] = &[
+    ("no message", Told::Datagram(5, b"")),
+    ("a query", Told::Datagram(5, QUERY)),
+];
 
 // These bytes as those of a message.
 fn message_bytes<A: Heap>(alloc: A, bytes: &[u8]) -> Result<Bytes<A>, Starved> {
@@ -135,7 +138,7 @@ fn push_event<A: Heap>(
 }
 
 fn push_events<A: Heap>(events: &mut Vec<TypedEvent<A>, A>, alloc: A) -> Result<(), Starved> {
-    for row in EVENTS {
+    for (_, row) in EVENTS {
         push_event(events, alloc, *row)?;
     }
     Ok(())
@@ -159,20 +162,32 @@ enum Gives {
     Ask(Path),
 }
 
-const ACTIONS: &[(Gives, bool)] = &[
-    (Gives::Nothing, false),
-    (Gives::Nothing, true),
-    (Gives::Answer, false),
-    (Gives::Answer, true),
-    (Gives::NoName, false),
-    (Gives::Referral, false),
-    (Gives::Fail(Cause::DeadlineOver), false),
-    (Gives::Fail(Cause::ChainTooLong), false),
-    (Gives::Refuse(OTHER_CLASS), false),
-    (Gives::Refuse(b"\0\x05\x01\0\0\0\0\0\0\0\0\0"), false),
-    (Gives::Ask(Path::Udp(7)), false),
-    (Gives::Ask(Path::Udp(8)), false),
-    (Gives::Ask(Path::Tcp(7)), false),
+const ACTIONS: &[(&str, Gives, bool)] = &[
+    ("nothing", Gives::Nothing, false),
+    ("nothing, and more is due", Gives::Nothing, true),
+    ("an answer", Gives::Answer, false),
+    ("an answer, and more is due", Gives::Answer, true),
+    ("a name error", Gives::NoName, false),
+    ("a referral", Gives::Referral, false),
+    ("a failure in time", Gives::Fail(Cause::DeadlineOver), false),
+    (
+        "a failure of aliases",
+        Gives::Fail(Cause::ChainTooLong),
+        false,
+    ),
+    ("a refused class", Gives::Refuse(OTHER_CLASS), false),
+    (
+        "a refused header",
+        Gives::Refuse(b"\0\x05\x01\0\0\0\0\0\0\0\0\0"),
+        false,
+    ),
+    ("an ask over UDP", Gives::Ask(Path::Udp(7)), false),
+    (
+        "an ask from another socket",
+        Gives::Ask(Path::Udp(8)),
+        false,
+    ),
+    ("an ask over TCP", Gives::Ask(Path::Tcp(7)), false),
 ];
 
 const ALIAS: &[Row<'static>] = &[(OWNER, 300, Value::Cname(HOST))];
@@ -263,7 +278,8 @@ fn given<A: Heap>(alloc: A, gives: Gives) -> Result<Option<TypedAction<A>>, Star
 fn push_action<A: Heap>(
     actions: &mut Vec<TypedActions<A>, A>,
     alloc: A,
-    (gives, more_due): (Gives, bool),
+    gives: Gives,
+    more_due: bool,
 ) -> Result<(), Starved> {
     let first = given(alloc, gives)?;
     actions.push(TypedActions { first, more_due })?;
@@ -271,8 +287,8 @@ fn push_action<A: Heap>(
 }
 
 fn push_actions<A: Heap>(actions: &mut Vec<TypedActions<A>, A>, alloc: A) -> Result<(), Starved> {
-    for row in ACTIONS {
-        push_action(actions, alloc, *row)?;
+    for (_, gives, more_due) in ACTIONS {
+        push_action(actions, alloc, *gives, *more_due)?;
     }
     Ok(())
 }
@@ -346,49 +362,56 @@ fn first_unsaid<T: Copied + Drop, B: Allocator>(
     None
 }
 
-type CopyReport = (Option<usize>, u64, Option<u64>);
+// The row whose copy goes wrong, how many growths the copies take, and the first of these that is refused in vain.
+type CopyReport<P> = (Option<P>, u64, Option<u64>);
 
-// Where a copy goes wrong, its place; else how many growths the copies take, and the first of these that is refused in
-// vain.
+// The same, with the row's place.
 fn copies<T: Copied + Drop, B: Allocator>(
     heap: &Refusing<B>,
     rows: &[T],
-) -> Result<CopyReport, Starved> {
+) -> Result<CopyReport<usize>, Starved> {
     let before = heap.growths();
     let wrong = wrong_copy(rows)?;
     let growths = heap.growths().saturating_sub(before);
     Ok((wrong, growths, first_unsaid(heap, rows, growths)))
 }
 
-fn copies_of_events(heap: &Refusing<Global>) -> Result<CopyReport, Starved> {
+fn copies_of_events(heap: &Refusing<Global>) -> Result<CopyReport<&'static str>, Starved> {
     let events = typed_events(heap)?;
     let copies = copies(heap, &events);
     drop(events);
-    copies
+    let (wrong, growths, unsaid) = copies?;
+    let row = wrong.and_then(|place| EVENTS.get(place));
+    Ok((row.map(|row| row.0), growths, unsaid))
 }
 
-fn copies_of_actions(heap: &Refusing<Global>) -> Result<CopyReport, Starved> {
+fn copies_of_actions(heap: &Refusing<Global>) -> Result<CopyReport<&'static str>, Starved> {
     let actions = typed_actions(heap)?;
     let copies = copies(heap, &actions);
     drop(actions);
-    copies
+    let (wrong, growths, unsaid) = copies?;
+    let row = wrong.and_then(|place| ACTIONS.get(place));
+    Ok((row.map(|row| row.0), growths, unsaid))
 }
 
-// How many of these rows are read as events.
-fn read_rows<A: Heap>(alloc: A, rows: &[Told]) -> Result<u32, Starved> {
-    let mut read = 0u32;
-    for row in rows {
-        if typed_event(alloc, *row)?.is_some() {
-            read = read.saturating_add(1);
+// The first of these rows that is read as an event, or the first that is not.
+fn first_read<A: Heap>(
+    alloc: A,
+    rows: &[(&'static str, Told)],
+    is_read: bool,
+) -> Result<Option<&'static str>, Starved> {
+    for (what, row) in rows {
+        if typed_event(alloc, *row)?.is_some() == is_read {
+            return Ok(Some(*what));
         }
     }
-    Ok(read)
+    Ok(None)
 }
 
 #[test]
 fn datagrams_that_reply_to_no_question_are_no_events(rt: HostRuntime) -> Result<(), Fail> {
-    assert_eq!(rt; read_rows(rt.alloc(), NO_REPLIES)?, 0);
-    assert_eq!(rt; read_rows(rt.alloc(), EVENTS)?, 16);
+    assert_eq!(rt; first_read(rt.alloc(), NO_REPLIES, true)?, None);
+    assert_eq!(rt; first_read(rt.alloc(), EVENTS, false)?, None);
     Ok(())
 }
 
@@ -427,10 +450,12 @@ fn first_unread<B: Allocator>(heap: &Refusing<B>, row: Told) -> Result<Option<u6
 }
 
 // The first row, and the first growth of reading it, whose refusal goes unsaid.
-fn first_unread_row<B: Allocator>(heap: &Refusing<B>) -> Result<Option<(usize, u64)>, Starved> {
-    for (place, row) in EVENTS.iter().enumerate() {
+fn first_unread_row<B: Allocator>(
+    heap: &Refusing<B>,
+) -> Result<Option<(&'static str, u64)>, Starved> {
+    for (what, row) in EVENTS {
         if let Some(n) = first_unread(heap, *row)? {
-            return Ok(Some((place, n)));
+            return Ok(Some((*what, n)));
         }
     }
     Ok(None)

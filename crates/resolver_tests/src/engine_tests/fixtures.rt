@@ -127,11 +127,15 @@ fn perform_all<A: Heap>(resolver: &mut TestResolver<A>, acts: &[(Act, Out)]) {
 // of them is refused nothing goes out, and then something else happens.
 #[derive(Clone, Copy)]
 pub struct Starving {
+    pub what: &'static str,
     pub acts: &'static [(Act, Out)],
     pub last: (Act, Out),
     pub takes_memory: bool,
     pub after: &'static [(Act, Out)],
 }
+
+// The row that goes wrong, how many growths its last step takes or which of them was refused, and what came of it.
+pub type Wrong = (&'static str, u64, Out);
 
 impl Starving {
     // The resolver before the last act. What comes of the acts before it is seen by other rows.
@@ -165,14 +169,15 @@ impl Starving {
         Ok((out, goes_on))
     }
 
-    // Whether nothing goes out, whichever of so many growths is refused, and all comes then as it has to.
-    fn goes_without<A: Heap>(self, alloc: A, growths: u64) -> Result<bool, Starved> {
+    // The first of so many growths without which something goes out, or not all comes then as it has to.
+    fn wrong_without<A: Heap>(self, alloc: A, growths: u64) -> Result<Option<Wrong>, Starved> {
         for growth in 0..growths {
-            if self.without(alloc, growth)? != (Out::Starved, true) {
-                return Ok(false);
+            let (out, goes_on) = self.without(alloc, growth)?;
+            if (out, goes_on) != (Out::Starved, true) {
+                return Ok(Some((self.what, growth, out)));
             }
         }
-        Ok(true)
+        Ok(None)
     }
 
     fn takes(self, growths: u64) -> bool {
@@ -183,21 +188,22 @@ impl Starving {
         }
     }
 
-    // Whether the last step takes memory or none, and does what was worked with it.
-    fn goes<A: Heap>(self, alloc: A) -> Result<bool, Starved> {
+    // What goes wrong where the last step is to take memory or none, and to do what was worked with it.
+    fn wrong<A: Heap>(self, alloc: A) -> Result<Option<Wrong>, Starved> {
         let (growths, out) = self.last_step(alloc)?;
         if out != self.last.1 || !self.takes(growths) {
-            return Ok(false);
+            return Ok(Some((self.what, growths, out)));
         }
-        self.goes_without(alloc, growths)
+        self.wrong_without(alloc, growths)
     }
 }
 
 // The first of these that does not go so.
-pub fn first_not_starving<A: Heap>(alloc: A, rows: &[Starving]) -> Result<Option<usize>, Starved> {
-    for (number, row) in rows.iter().enumerate() {
-        if !row.goes(alloc)? {
-            return Ok(Some(number));
+pub fn first_wrong<A: Heap>(alloc: A, rows: &[Starving]) -> Result<Option<Wrong>, Starved> {
+    for row in rows {
+        let wrong = row.wrong(alloc)?;
+        if wrong.is_some() {
+            return Ok(wrong);
         }
     }
     Ok(None)

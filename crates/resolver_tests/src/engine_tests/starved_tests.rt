@@ -283,27 +283,29 @@ fn wrong_growth<A: Heap>(alloc: A, kind: Kind, least: u64) -> Result<Option<u64>
     Ok(None)
 }
 
-// The place of the first of these events that goes wrong, and the growth.
-fn first_wrong<A: Heap>(alloc: A, kinds: &[(Kind, u64)]) -> Result<Option<(usize, u64)>, Starved> {
-    for (place, (kind, least)) in kinds.iter().enumerate() {
+// An event, and how many growths its step takes more than.
+type Row = (&'static str, Kind, u64);
+
+// The first of these events that goes wrong, and the growth.
+fn first_wrong<A: Heap>(alloc: A, rows: &[Row]) -> Result<Option<(&'static str, u64)>, Starved> {
+    for (what, kind, least) in rows {
         if let Some(growth) = wrong_growth(alloc, *kind, *least)? {
-            return Ok(Some((place, growth)));
+            return Ok(Some((*what, growth)));
         }
     }
     Ok(None)
 }
 
-// Beside each event, how many growths its step takes more than.
-const KINDS: &[(Kind, u64)] = &[
-    (Kind::Query, 4),
-    (Kind::Told, 4),
-    (Kind::ToldOverTcp, 4),
-    (Kind::LostOverTcp, 1),
-    (Kind::Late, 1),
+const ROWS: &[Row] = &[
+    ("a query", Kind::Query, 4),
+    ("a reply", Kind::Told, 4),
+    ("a reply over TCP", Kind::ToldOverTcp, 4),
+    ("an ask over TCP that failed", Kind::LostOverTcp, 1),
+    ("the end of a wait", Kind::Late, 1),
 ];
 
 #[test]
 fn an_event_that_wants_memory_leaves_the_rest(rt: HostRuntime) -> Result<(), Fail> {
-    assert_eq!(rt; first_wrong(rt.alloc(), KINDS)?, None);
+    assert_eq!(rt; first_wrong(rt.alloc(), ROWS)?, None);
     Ok(())
 }

@@ -1,6 +1,6 @@
 //! Steps from outside, by messages worked by hand.
 use crate::engine_tests::fixtures::{
-    Act, EXAMPLE, Line, QUERY, ROOT, Starving, WWW_EXAMPLE, first_not_starving,
+    Act, EXAMPLE, Line, QUERY, ROOT, Starving, WWW_EXAMPLE, first_wrong,
 };
 use engine_fixture::Out;
 use std::test::Fail;
@@ -40,27 +40,30 @@ const STRAY: (Act, Out) = (Act::Told(2, FOUND, ONE), Out::Nothing);
 const SHORT: (Act, Out) = (Act::Asks(0, b"\0\x05\x01\0\0\x01\0\0\0\0\0"), Out::Nothing);
 
 const ROWS: &[Starving] = &[
-    // What is for nobody takes no memory: those, and time at which nothing is due.
     Starving {
+        what: "a reply of another server takes no memory",
         acts: &[ASKED],
         last: STRAY,
         takes_memory: false,
         after: &[],
     },
     Starving {
+        what: "bytes that are no message take none",
         acts: &[ASKED, STRAY],
         last: SHORT,
         takes_memory: false,
         after: &[],
     },
     Starving {
+        what: "time at which nothing is due takes none",
         acts: &[ASKED, STRAY, SHORT],
         last: (Act::Tick(999), Out::Nothing),
         takes_memory: false,
         after: &[],
     },
-    // A reply that wants memory ends its query: the reply once more and time bring nothing.
+    // The reply once more and time bring nothing.
     Starving {
+        what: "a reply that wants memory ends its query",
         acts: &[ASKED],
         last: (Act::Told(ROOT, FOUND, ONE), Out::Replied),
         takes_memory: true,
@@ -69,8 +72,9 @@ const ROWS: &[Starving] = &[
             (Act::Tick(60_000), Out::Nothing),
         ],
     },
-    // A query that wants memory is not opened: time brings nothing, and the query once more is opened.
+    // Time brings nothing, and the query once more is opened.
     Starving {
+        what: "a query that wants memory is not opened",
         acts: &[],
         last: ASKED,
         takes_memory: true,
@@ -80,11 +84,12 @@ const ROWS: &[Starving] = &[
 
 #[test]
 fn memory_may_be_refused(rt: HostRuntime) -> Result<(), Fail> {
-    assert_eq!(rt; first_not_starving(rt.alloc(), ROWS)?, None);
+    assert_eq!(rt; first_wrong(rt.alloc(), ROWS)?, None);
     Ok(())
 }
 
 const ANSWERED: Starving = Starving {
+    what: "an answer",
     acts: &[ASKED],
     last: (Act::Told(ROOT, FOUND, ONE), Out::Replied),
     takes_memory: true,

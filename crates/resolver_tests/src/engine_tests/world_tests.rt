@@ -137,41 +137,46 @@ fn wrong_place<A: Heap>(alloc: A, talk: Talk, places: Places) -> Result<Option<u
     Ok(None)
 }
 
+// A part of a talk's reply.
+type Part = (&'static str, Talk, Places);
+
 // The first of these parts with such a byte, and its place.
 fn first_wrong<A: Heap>(
     alloc: A,
-    parts: &[(Talk, Places)],
-) -> Result<Option<(usize, usize)>, Starved> {
-    for (number, (talk, places)) in parts.iter().enumerate() {
+    parts: &[Part],
+) -> Result<Option<(&'static str, usize)>, Starved> {
+    for (what, talk, places) in parts {
         if let Some(place) = wrong_place(alloc, *talk, *places)? {
-            return Ok(Some((number, place)));
+            return Ok(Some((*what, place)));
         }
     }
     Ok(None)
 }
 
-const PARTS: &[(Talk, Places)] = &[
-    // The header and the question of each.
-    (TALK_WITH_ROOT, (0, 33)),
-    (TALK_WITH_EXAMPLE, (0, 33)),
-    (TALK_WITH_LAB, (0, 33)),
-    (TALK_OF_GONE, (0, 30)),
-    (TALK_OF_APP, (0, 29)),
-    // The server of example., and its address.
-    (TALK_WITH_ROOT, (33, 50)),
-    (TALK_WITH_ROOT, (50, 66)),
-    // The server of lab.example., and its address.
-    (TALK_WITH_EXAMPLE, (33, 50)),
-    (TALK_WITH_EXAMPLE, (50, 66)),
-    // An address.
-    (TALK_WITH_LAB, (33, 49)),
-    // The names and the numbers of a negative answer.
-    (TALK_OF_GONE, (30, 51)),
-    (TALK_OF_GONE, (51, 71)),
-    // An alias, and the names and the numbers beside it.
-    (TALK_OF_APP, (29, 51)),
-    (TALK_OF_APP, (51, 72)),
-    (TALK_OF_APP, (72, 92)),
+const PARTS: &[Part] = &[
+    ("the root's header and question", TALK_WITH_ROOT, (0, 33)),
+    (
+        "the header and question of example.",
+        TALK_WITH_EXAMPLE,
+        (0, 33),
+    ),
+    (
+        "the header and question of lab.example.",
+        TALK_WITH_LAB,
+        (0, 33),
+    ),
+    ("the header and question of a denial", TALK_OF_GONE, (0, 30)),
+    ("the header and question of an alias", TALK_OF_APP, (0, 29)),
+    ("the server of example.", TALK_WITH_ROOT, (33, 50)),
+    ("its address", TALK_WITH_ROOT, (50, 66)),
+    ("the server of lab.example.", TALK_WITH_EXAMPLE, (33, 50)),
+    ("the address of that", TALK_WITH_EXAMPLE, (50, 66)),
+    ("an address", TALK_WITH_LAB, (33, 49)),
+    ("the names of a denial", TALK_OF_GONE, (30, 51)),
+    ("the numbers of a denial", TALK_OF_GONE, (51, 71)),
+    ("an alias", TALK_OF_APP, (29, 51)),
+    ("the names beside an alias", TALK_OF_APP, (51, 72)),
+    ("the numbers beside an alias", TALK_OF_APP, (72, 92)),
 ];
 
 #[test]

@@ -195,6 +195,19 @@ const TIMES: [Row; 13] = [
     (Next, Nobody),
 ];
 
+// Lists of moves, each with the limits that it is made under.
+const LISTS: [(&str, Limits, &[Row]); 9] = [
+    ("in order", SMALL, &IN_ORDER),
+    ("failed", SMALL, &FAILED),
+    ("of one address", SMALL, &OF_ONE_ADDRESS),
+    ("reserve", SMALL, &RESERVE),
+    ("times", SMALL, &TIMES),
+    ("share", WIDE, &SHARE),
+    ("front", OF_A_FRONT, &FRONT),
+    ("domain", OF_EIGHT, &DOMAIN),
+    ("answered", WITH_ANSWERED, &ANSWERED),
+];
+
 // The first row that comes out otherwise, and what came.
 fn first_wrong<H: Heap>(
     alloc: H,
@@ -211,15 +224,19 @@ fn first_wrong<H: Heap>(
     Ok(None)
 }
 
+// The first list with such a row.
+fn first_wrong_list<H: Heap>(alloc: H) -> Result<Option<(&'static str, (usize, Answer))>, Starved> {
+    for (list, limits, rows) in LISTS {
+        if let Some(wrong) = first_wrong(alloc, limits, rows)? {
+            return Ok(Some((list, wrong)));
+        }
+    }
+    Ok(None)
+}
+
 #[test]
 fn each_move(rt: HostRuntime) -> Result<(), test::Fail> {
-    for rows in [&IN_ORDER[..], &FAILED, &OF_ONE_ADDRESS, &RESERVE, &TIMES] {
-        assert_eq!(rt; first_wrong(rt.alloc(), SMALL, rows)?, None);
-    }
-    assert_eq!(rt; first_wrong(rt.alloc(), WIDE, &SHARE)?, None);
-    assert_eq!(rt; first_wrong(rt.alloc(), OF_A_FRONT, &FRONT)?, None);
-    assert_eq!(rt; first_wrong(rt.alloc(), OF_EIGHT, &DOMAIN)?, None);
-    assert_eq!(rt; first_wrong(rt.alloc(), WITH_ANSWERED, &ANSWERED)?, None);
+    assert_eq!(rt; first_wrong_list(rt.alloc())?, None);
     Ok(())
 }
 
