@@ -18,9 +18,10 @@ kit:
 ask:
 	@tools/ask $(QUESTION)
 
-# Proves and builds the program, with all below it.
+# Proves and builds the program, with all below it: for any x86-64 processor, or with CPU=x86-64-v3 for those that have
+# AVX2 (since 2013), on which it takes fewer instructions.
 prove-program: kit
-	tools/prove --program
+	tools/prove --program $(CPU)
 
 # Says where there is no proved program yet.
 built:
