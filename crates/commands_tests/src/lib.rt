@@ -13,16 +13,12 @@ mod growths;
 #[cfg(test)]
 mod nameservers;
 #[cfg(test)]
-mod nowhere;
+mod place;
 #[cfg(test)]
 mod plays;
-#[cfg(test)]
-mod scripts;
 #[cfg(test)]
 mod serve_tests;
 #[cfg(test)]
 mod server_start_tests;
-#[cfg(test)]
-mod storms;
 #[cfg(test)]
 mod tests;
