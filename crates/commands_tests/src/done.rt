@@ -1,11 +1,11 @@
 //! A command that is done over texts and in a place of the test's own.
+use crate::place::{NOWHERE, Place};
 use commandline::Command;
-use commands::{Host, Outcome, Server, Texts, run_command};
+use commands::{Outcome, Server, Texts, run_command};
 use failing_writer::{AMPLE, FailingWriter};
 use memory::Heap;
 use std::sync::Wait;
 use std::thread::Threads;
-use trace::Peers;
 
 /// What a command ended with and wrote.
 #[derive(Drop)]
@@ -34,18 +34,19 @@ pub type Rooms = (usize, usize);
 pub const ROOMY: Rooms = (AMPLE, AMPLE);
 
 /// Does a command in this memory, and hands out the server that it started. What it writes takes other memory.
-pub fn start<R: Threads + Wait + AllocGlobal + Sync, A: Heap, T: Texts, H: Host + Peers>(
+pub fn start<R: Threads + Wait + AllocGlobal + Sync, A: Heap, T: Texts>(
     rt: &R,
     alloc: A,
     command: &Command,
     texts: &mut T,
-    host: &mut H,
+    place: Place,
     (room, fault_room): Rooms,
 ) -> (Done, Option<Server<A>>) {
+    let mut host = place;
     let mut out = FailingWriter::new(rt.alloc(), room);
     let mut err = FailingWriter::new(rt.alloc(), fault_room);
     let Outcome { status, server } = run_command(
-        rt, alloc, command, texts, host, &mut out, &mut err,
+        rt, alloc, command, texts, &mut host, &mut out, &mut err,
     );
     let serves = server.is_some();
     let done = Done {
@@ -57,15 +58,14 @@ pub fn start<R: Threads + Wait + AllocGlobal + Sync, A: Heap, T: Texts, H: Host 
     (done, server)
 }
 
-/// The same, where the server is not wanted.
-pub fn perform<R: Threads + Wait + AllocGlobal + Sync, A: Heap, T: Texts, H: Host + Peers>(
+/// The same where no server can listen.
+pub fn perform<R: Threads + Wait + AllocGlobal + Sync, A: Heap, T: Texts>(
     rt: &R,
     alloc: A,
     command: &Command,
     texts: &mut T,
-    host: &mut H,
     rooms: Rooms,
 ) -> Done {
-    let (done, _server) = start(rt, alloc, command, texts, host, rooms);
+    let (done, _server) = start(rt, alloc, command, texts, NOWHERE, rooms);
     done
 }

@@ -2,11 +2,9 @@
 
 use crate::done::Done;
 use crate::plays::{
-    ALIAS, ALIASES, DARK, DENIED, FOLLOWED, KEPT, LOOKED_UP, NESTED, RUN_OUT, SILENT, SMALL,
-    STRANGE, TRUNCATED, Worked, play,
+    ALIAS, ALIASES, DARK, DENIED, FOLLOWED, Held, KEPT, LOOKED_UP, NESTED, RUN_OUT, SILENT, SMALL,
+    STRANGE, TRUNCATED, play,
 };
-use crate::scripts::Held;
-use memory::Heap;
 use refusing_alloc::Refusing;
 use std::alloc::AllocError;
 use std::process::Abort;
@@ -15,67 +13,59 @@ use std::sync::Wait;
 use std::test::Fail;
 use std::thread::Threads;
 
-// Whether it ended when out of memory alone.
-fn is_cut_off(done: &Done) -> bool {
-    done.is((3, "", "error: memory\n"))
-}
-
-// Whether a step starved, the rest was done, and each reply that counts is right.
-fn is_starved(done: &Done) -> bool {
-    let Ok(text) = from_utf8(done.out.bytes.as_slice()) else {
-        return false;
-    };
-    done.status == 0
-        && done.err.holds("")
-        && text.contains("starved\n")
-        && ["right 0 of 0\n", "right 1 of 1\n", "right 2 of 2\n"]
-            .iter()
-            .any(|line| text.ends_with(*line))
-}
-
 // What a play comes to while memory is refused.
+#[derive(Clone, Copy)]
 enum Lot {
+    // It ended when out of memory alone.
     CutOff,
+    // A step starved, and the rest was done.
     Starved,
+    // All was done.
+    Whole,
     Other,
 }
 
-fn lot_of<R: Threads + Wait + AllocGlobal + Sync, A: Heap>(
-    rt: &R,
-    alloc: A,
-    held: Held<'_>,
-) -> Result<Lot, AllocError> {
-    let done = play(rt, alloc, held)?;
-    Ok(if is_cut_off(&done) {
-        Lot::CutOff
-    } else if is_starved(&done) {
-        Lot::Starved
-    } else {
-        Lot::Other
-    })
+impl Lot {
+    // What came of a play. Where it was done, each reply that counts is right.
+    fn of(done: &Done) -> Lot {
+        if done.is((3, "", "error: memory\n")) {
+            return Lot::CutOff;
+        }
+        let Ok(text) = from_utf8(done.out.bytes.as_slice()) else {
+            return Lot::Other;
+        };
+        let is_right = ["right 0 of 0\n", "right 1 of 1\n", "right 2 of 2\n"]
+            .iter()
+            .any(|line| text.ends_with(*line));
+        if done.status != 0 || !done.err.holds("") || !is_right {
+            Lot::Other
+        } else if text.contains("starved\n") {
+            Lot::Starved
+        } else {
+            Lot::Whole
+        }
+    }
 }
 
 // The first growth of a play whose refusal neither cuts it off nor lets a step starve, or else the number of growths
-// where nothing is cut off, or nothing starves, or the play goes wrong with all its memory.
+// where nothing is cut off, or nothing starves, or the play goes wrong with all its memory. What each prints with all its
+// memory stands in examples/plays and tests/commands.
 fn wrong_growth<R: Threads + Wait + AllocGlobal + Sync>(
     rt: &R,
     world: &str,
-    worked: Worked,
+    script: &str,
 ) -> Result<Option<u64>, AllocError> {
     let heap = Refusing::new(rt.alloc());
-    let held = Held {
-        world,
-        script: worked.script,
-    };
-    let is_whole = play(rt, &heap, held)?.is((0, worked.printed, ""));
+    let held = Held { world, script };
+    let is_whole = matches!(Lot::of(&play(rt, &heap, held)?), Lot::Whole);
     let growths = heap.growths();
     let (mut cuts_off, mut starves) = (false, false);
     for growth in 0..growths {
         heap.refuse_after(growth);
-        match lot_of(rt, &heap, held)? {
+        match Lot::of(&play(rt, &heap, held)?) {
             Lot::CutOff => cuts_off = true,
             Lot::Starved => starves = true,
-            Lot::Other => return Ok(Some(growth)),
+            Lot::Whole | Lot::Other => return Ok(Some(growth)),
         }
     }
     let is_well = is_whole && cuts_off && starves;
@@ -86,9 +76,9 @@ fn wrong_growth<R: Threads + Wait + AllocGlobal + Sync>(
 fn see<R: Abort + Threads + Wait + AllocGlobal + Sync>(
     rt: &R,
     world: &str,
-    worked: Worked,
+    script: &str,
 ) -> Result<(), Fail> {
-    assert_eq!(rt; wrong_growth(rt, world, worked)?, None);
+    assert_eq!(rt; wrong_growth(rt, world, script)?, None);
     Ok(())
 }
 

@@ -1,5 +1,6 @@
-//! The tests of `config`, `commandline` and `commands`, from outside: by what they make public, and by scripts that are
-//! played in worlds in memory; and of `server_start`, a resolver at its sockets, with servers and clients beside it.
+//! What rows of commands (tests/commands) can't show of `config` and `commands`: the numbers that a server's file sets,
+//! growths that are refused, output that fails, and what is wanting at a start; and of `server_start`, a resolver at its
+//! sockets, with servers and clients beside it.
 #![tactic(auto)]
 
 #[cfg(test)]
@@ -13,16 +14,12 @@ mod growths;
 #[cfg(test)]
 mod nameservers;
 #[cfg(test)]
-mod nowhere;
+mod place;
 #[cfg(test)]
 mod plays;
-#[cfg(test)]
-mod scripts;
 #[cfg(test)]
 mod serve_tests;
 #[cfg(test)]
 mod server_start_tests;
-#[cfg(test)]
-mod storms;
 #[cfg(test)]
 mod tests;

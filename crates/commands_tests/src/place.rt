@@ -1,4 +1,4 @@
-//! A machine on which no server can listen.
+//! A machine on which a server may listen, or none can.
 use commands::Host;
 use events::Endpoint;
 use memory::{Heap, Starved};
@@ -6,17 +6,27 @@ use server::Shown;
 use trace::Peers;
 use wire::Via;
 
-/// No place for a server.
+/// A place that has this port free or none, or no memory for sockets; and random bytes, or not.
 #[derive(Clone, Copy)]
-pub struct Nowhere;
+pub struct Place {
+    pub port: Result<Option<u16>, Starved>,
+    pub seed: Option<[u8; 32]>,
+}
 
-impl Host for Nowhere {
+/// No place for a server.
+pub const NOWHERE: Place = Place {
+    port: Ok(None),
+    seed: None,
+};
+
+impl Host for Place {
     fn seed(&mut self) -> Option<[u8; 32]> {
-        None
+        self.seed
     }
 
-    fn open(&mut self, _listen: Endpoint, _shown: Shown) -> Result<Option<u16>, Starved> {
-        Ok(None)
+    fn open(&mut self, listen: Endpoint, _shown: Shown) -> Result<Option<u16>, Starved> {
+        let port = self.port?;
+        if listen.port == 0 { Ok(port) } else { Ok(None) }
     }
 
     fn reason<A: Heap>(
@@ -25,12 +35,12 @@ impl Host for Nowhere {
         _way: Via,
         _at: Endpoint,
     ) -> Result<Option<String<A>>, Starved> {
-        Ok(Some(String::from_str(alloc, "nowhere")?))
+        Ok(Some(String::from_str(alloc, "busy")?))
     }
 }
 
 // Nothing is sent there, and nothing comes.
-impl Peers for Nowhere {
+impl Peers for Place {
     fn moment(&mut self) -> u64 {
         0
     }
