@@ -44,8 +44,9 @@ bench: built
 	tools/pace
 
 # The gate: every proof, every edit that must fail, every test and every run, and with the proved program the examples
-# and runs of the server (tools/serving, tools/sockets, tools/metrics, tools/managed, and tools/fronted where dnsdist is
-# installed) and of what an operator asks (tools/operator); of the other edits, that they can still be applied.
+# and the tests that are texts (tools/examples, tools/plays), runs of the server (tools/serving, tools/sockets,
+# tools/metrics, tools/managed, and tools/fronted where dnsdist is installed) and of what an operator asks
+# (tools/operator); of the other edits, that they can still be applied.
 test: kit
 	tools/layers --check
 	tools/definitions
@@ -58,6 +59,7 @@ test: kit
 	tools/turned --texts
 	tools/prove
 	tools/examples
+	tools/plays
 	tools/serving
 	tools/sockets
 	tools/metrics
