@@ -1,6 +1,5 @@
-//! The tests of `play`, from outside: by what it makes public.
+//! The tests of `play`, from outside: by what it makes public. Worked plays are texts (tests/plays, tools/plays).
 mod changed_tests;
-mod deep_tests;
+mod dice;
 mod made;
 mod tests;
-mod texts;

@@ -1,6 +1,6 @@
 //! Clients who send queries with one byte changed.
 
-use crate::simnet_tests::play_tests::texts::{all_right, script, world};
+use crate::simnet_tests::texts::{all_right, script, world};
 use play::play;
 use std::alloc::{AllocError, Global};
 use std::process::Abort;
