@@ -1,5 +1,4 @@
 //! The tests of `play`, from outside: by what it makes public. Worked plays are texts (tests/plays, tools/plays).
-mod changed_tests;
 mod dice;
 mod made;
 mod tests;
