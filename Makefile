@@ -44,10 +44,10 @@ bench: built
 	cd crates/bench && rt run -- hostile
 	tools/pace
 
-# The gate: every proof, every edit that must fail, every test and every run, and with the proved program the examples,
-# the rows of commands (tools/commands), runs of the server (tools/serving, tools/sockets, tools/metrics, tools/managed,
-# and tools/fronted where dnsdist is installed) and of what an operator asks (tools/operator); of the other edits, that
-# they can still be applied.
+# The gate: every proof, every edit that must fail, every test and every run, and with the proved program the examples
+# and the tests that are texts (tools/examples, tools/plays, tools/commands), runs of the server (tools/serving,
+# tools/sockets, tools/metrics, tools/managed, and tools/fronted where dnsdist is installed) and of what an operator
+# asks (tools/operator); of the other edits, that they can still be applied.
 test: kit
 	tools/layers --check
 	tools/definitions
@@ -60,6 +60,7 @@ test: kit
 	tools/turned --texts
 	tools/prove
 	tools/examples
+	tools/plays
 	tools/commands
 	tools/serving
 	tools/sockets

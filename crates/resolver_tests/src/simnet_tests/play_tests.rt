@@ -1,6 +1,4 @@
-//! The tests of `play`, from outside: by what it makes public.
-mod changed_tests;
-mod deep_tests;
+//! The tests of `play`, from outside: by what it makes public. Worked plays are texts (tests/plays, tools/plays).
+mod dice;
 mod made;
 mod tests;
-mod texts;

@@ -1,6 +1,6 @@
 //! Worlds and scripts made from a seed.
 
-use crate::simnet_tests::made::Dice;
+use crate::simnet_tests::play_tests::dice::Dice;
 use std::alloc::AllocError;
 
 impl Dice {

@@ -1,8 +1,8 @@
 //! Scripts in worlds: whatever is asked, lost, repeated, truncated or late, each reply that counts is right.
 
-use crate::simnet_tests::made::Dice;
+use crate::simnet_tests::play_tests::dice::Dice;
 use crate::simnet_tests::play_tests::made::Tree;
-use crate::simnet_tests::play_tests::texts::{all_right, script, world};
+use crate::simnet_tests::texts::{all_right, script, world};
 use play::play;
 use std::alloc::Global;
 use std::test::Fail;
