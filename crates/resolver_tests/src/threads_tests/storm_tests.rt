@@ -1,3 +1,3 @@
-//! The tests of `storm`, from outside: by what it makes public. Storms are played by the program (`storms`, of its tests).
+//! The tests of `storm`, from outside: by what it makes public. Storms are rows of tests/commands.
 mod small;
 mod step_tests;
