@@ -18,8 +18,8 @@ kit:
 ask:
 	@tools/ask $(QUESTION)
 
-# Proves and builds the program, with all below it: for any x86-64 processor, or with CPU=x86-64-v3 for those that have
-# AVX2 (since 2013), on which it takes fewer instructions.
+# Proves and builds the program, with all below it: for processors since 2009 (x86-64-v2), or with CPU=x86-64-v3 for
+# those that have AVX2, since 2013.
 prove-program: kit
 	tools/prove --program $(CPU)
 
