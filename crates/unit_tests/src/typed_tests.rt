@@ -381,7 +381,10 @@ fn copies_of_events(heap: &Refusing<Global>) -> Result<CopyReport<&'static str>,
     let copies = copies(heap, &events);
     drop(events);
     let (wrong, growths, unsaid) = copies?;
-    let row = wrong.and_then(|place| EVENTS.get(place));
+    let row = match wrong {
+        Some(place) => EVENTS.get(place),
+        None => None,
+    };
     Ok((row.map(|row| row.0), growths, unsaid))
 }
 
@@ -390,7 +393,10 @@ fn copies_of_actions(heap: &Refusing<Global>) -> Result<CopyReport<&'static str>
     let copies = copies(heap, &actions);
     drop(actions);
     let (wrong, growths, unsaid) = copies?;
-    let row = wrong.and_then(|place| ACTIONS.get(place));
+    let row = match wrong {
+        Some(place) => ACTIONS.get(place),
+        None => None,
+    };
     Ok((row.map(|row| row.0), growths, unsaid))
 }
 
